@@ -1,0 +1,40 @@
+-- Laws of little-endian words: what a crate above cites, so that it never unfolds `wordAt`. Assumes nothing.
+use mathlib.Core.Path.{_≡_, refl}
+use Prim.Native.Nat.{ℕ, _+_, _*_, _%_, _^_, _≤_, _<_}
+use mathlib.Core.List.{List}
+use lib.ListN.{length, getD}
+use lib.Dec.{leb, lit<}
+use native.Mathlib.Nat.{add-zero}
+use native.Mathlib.Omega.{arith}
+use borrow.Author.Tests.{le-leb, lt-leb, leb-true, leb-false}
+use Rattle.section.specs.Digits.{bytesAt, digits}
+use Rattle.section.specs.Word.{le32, word, wordAt}
+use Rattle.section.specs.declared.Word.the-variants.{At, Short}
+use Rattle.section.proofs.Digits.{below}
+use Rattle.section.proofs.Picks.{by-test}
+
+module _ (xs : List ℕ) (o : ℕ) where
+  pub word-in : o + 4 ≤ length xs → wordAt xs o ≡ At (word xs o)
+  unfolding wordAt
+  word-in h = simp (le-leb _ _ h)
+
+  pub word-out : length xs < o + 4 → wordAt xs o ≡ Short
+  unfolding wordAt
+  word-out h = simp (lt-leb _ _ h)
+
+  -- a word that was read was there
+  pub word-here : (w : ℕ) → wordAt xs o ≡ At w → (o + 4 ≤ length xs) × (w ≡ word xs o)
+  word-here w e =
+      by-test (leb (o + 4) (length xs))
+      (λ t. let h = word-in (leb-true _ _ t) in (leb-true _ _ t, cc))
+      (λ f. let h = word-out (leb-false _ _ f) in let z : _≡_ {A = ℕ} 0 1 = cc in absurd (omega arith))
+
+  pub word-below : word xs o < 2 ^ 32
+  unfolding word
+  word-below = below 256 (lit< tt) (bytesAt xs o) 4
+
+  -- four bytes, each below 256, are the word's digits
+  pub word-bytes : {a b c d : ℕ} → a ≡ getD xs o 0 → b ≡ getD xs (o + 1) 0 → c ≡ getD xs (o + 2) 0 → d ≡ getD xs (o + 3) 0
+      → a < 256 → b < 256 → c < 256 → d < 256 → le32 a b c d ≡ word xs o
+  unfolding word
+  word-bytes {a} {b} {c} {d} p q r s ha hb hc hd = rw (add-zero o, ← p, ← q, ← r, ← s) (omega arith)

@@ -1,0 +1,17 @@
+use borrow.Author.Needs.{needs}
+use Rattle.section.proofs.address_of.Statement.{statement}
+use Rattle.section.proofs.address_of.Tie as tie
+use Rattle.section.proofs.address_of.Reads as reads
+use Rattle.section.proofs.address_of.Lts as lts
+use Rattle.std.proofs.num.wrapping_add_u32.Reads as wrapping-add-u32-reads
+
+-- src/lib.rt:127:10
+wrapping-add-u32-requires : tie.Need-wrapping-add-u32-requires
+wrapping-add-u32-requires c κs = search needs
+
+-- src/lib.rt:124:1
+returns : tie.Need-returns
+returns c = cc
+
+pub address-of-spec : {M : Type 1} → statement M
+address-of-spec = tie.close (tie.spec wrapping-add-u32-requires returns)

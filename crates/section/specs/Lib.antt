@@ -1,0 +1,12 @@
+pub mod Pick
+pub mod Number
+pub mod Answer
+pub mod Check
+pub mod Rule
+pub mod Place
+pub mod Prel31
+pub mod Sum
+pub mod Digits
+pub mod Word
+pub mod View
+pub mod Walk
