@@ -29,6 +29,13 @@ module _ (xs : List ℕ) (o : ℕ) where
       (λ t. let h = word-in (leb-true _ _ t) in (leb-true _ _ t, cc))
       (λ f. let h = word-out (leb-false _ _ f) in let z : _≡_ {A = ℕ} 0 1 = cc in absurd (omega arith))
 
+  -- and one that was not there ran past the end
+  pub word-gone : wordAt xs o ≡ Short → length xs < o + 4
+  word-gone e =
+      by-test (leb (o + 4) (length xs))
+      (λ t. let h = word-in (leb-true _ _ t) in let z : _≡_ {A = ℕ} 0 1 = cc in absurd (omega arith))
+      (λ f. leb-false _ _ f)
+
   pub word-below : word xs o < 2 ^ 32
   unfolding word
   word-below = below 256 (lit< tt) (bytesAt xs o) 4

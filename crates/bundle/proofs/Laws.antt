@@ -1,0 +1,84 @@
+-- Laws of reading a bundle: one for each way to an answer. Assumes nothing.
+use Prim.Native.Nat.{ℕ, _+_, _*_, _≤_, _<_}
+use mathlib.Core.Path.{_≡_, refl, sym, _∙_}
+use mathlib.Core.List.{List}
+use native.Mathlib.Omega.{arith}
+use lib.ListN.{length}
+use lib.Dec.{leb}
+use borrow.Author.Tests.{le-leb, lt-leb, leb-true, leb-false, eq-eqb, ne-eqb}
+use Rattle.section.specs.Place.{addr}
+use Rattle.section.specs.Word.{word, wordAt}
+use Rattle.section.specs.declared.Addr.{Addr}
+use Rattle.section.specs.declared.Refusal.{Refusal}
+use Rattle.section.specs.declared.Word.the-variants.{At, Short}
+use Rattle.section.proofs.Picks.{by-test}
+use Rattle.section.proofs.Words.{word-here, word-out}
+use Rattle.bundle.specs.Bundle.{mostEntries, mostWords, laidOf, fromWords, fromEntries, bundleOf}
+use Rattle.bundle.specs.declared.BundleRead.{BundleRead}
+
+module _ (xs : List ℕ) (a b : Addr) (n : ℕ) where
+  pub words-short : wordAt xs (16 + 8 * n) ≡ Short → fromWords xs a b n ≡ BundleRead.Refused Refusal.Bundle
+  unfolding fromWords
+  words-short e = rw e
+
+  module _ (m : ℕ) (e : wordAt xs (16 + 8 * n) ≡ At m) where
+    pub words-many : mostWords < m → fromWords xs a b n ≡ BundleRead.Refused Refusal.Section
+    unfolding fromWords
+    words-many h = rw (e, lt-leb m mostWords h)
+
+    -- the bytes end early, or some are left over
+    pub words-length : m ≤ mostWords → (length xs ≡ 20 + 8 * n + 4 * m → ⊥) → fromWords xs a b n ≡ BundleRead.Refused Refusal.Bundle
+    unfolding fromWords
+    words-length h d =
+        by-test (leb (20 + 8 * n + 4 * m) (length xs))
+        (λ t. let g = leb-true (20 + 8 * n + 4 * m) (length xs) t in
+        let l : 20 + 8 * n + 4 * m < length xs = omega (arith, d) in
+        rw (e, le-leb m mostWords h, t, lt-leb (length xs) (20 + 8 * n + 4 * m) l))
+        (λ t. rw (e, le-leb m mostWords h, t))
+
+    pub words-laid : m ≤ mostWords → length xs ≡ 20 + 8 * n + 4 * m → fromWords xs a b n ≡ laidOf a b n m
+    unfolding fromWords
+    words-laid h d =
+        let l : length xs ≤ 20 + 8 * n + 4 * m = omega arith in
+        let g : 20 + 8 * n + 4 * m ≤ length xs = omega arith in
+        rw (e, le-leb m mostWords h, le-leb (20 + 8 * n + 4 * m) (length xs) g, le-leb (length xs) (20 + 8 * n + 4 * m) l)
+
+module _ (xs : List ℕ) (a b : Addr) where
+  pub entries-short : wordAt xs 12 ≡ Short → fromEntries xs a b ≡ BundleRead.Refused Refusal.Bundle
+  unfolding fromEntries
+  entries-short e = rw e
+
+  module _ (n : ℕ) (e : wordAt xs 12 ≡ At n) where
+    pub entries-many : mostEntries < n → fromEntries xs a b ≡ BundleRead.Refused Refusal.Section
+    unfolding fromEntries
+    entries-many h = rw (e, lt-leb n mostEntries h)
+
+    -- where the entries end early there is no word count either
+    pub entries-on : n ≤ mostEntries → fromEntries xs a b ≡ fromWords xs a b n
+    unfolding fromEntries
+    entries-on h =
+        by-test (leb (16 + 8 * n) (length xs))
+        (λ t. rw (e, le-leb n mostEntries h, t))
+        (λ t. let g = leb-false (16 + 8 * n) (length xs) t in
+        rw (e, le-leb n mostEntries h, t) (sym (words-short xs a b n (word-out xs (16 + 8 * n) (omega arith)))))
+
+module _ (xs : List ℕ) where
+  pub bundle-short : wordAt xs 0 ≡ Short → bundleOf xs ≡ BundleRead.Refused Refusal.Bundle
+  unfolding bundleOf
+  bundle-short e = rw e
+
+  module _ (first : ℕ) (e : wordAt xs 0 ≡ At first) where
+    pub bundle-first : (first ≡ 2 → ⊥) → bundleOf xs ≡ BundleRead.Refused Refusal.Bundle
+    unfolding bundleOf
+    bundle-first d = rw (e, ne-eqb first 2 d)
+
+    pub bundle-early : first ≡ 2 → length xs < 12 → bundleOf xs ≡ BundleRead.Refused Refusal.Bundle
+    unfolding bundleOf
+    bundle-early d h = rw (e, eq-eqb first 2 d, lt-leb 12 (length xs) h)
+
+    -- both addresses are there
+    pub bundle-on : first ≡ 2 → (i t : ℕ) → wordAt xs 4 ≡ At i → wordAt xs 8 ≡ At t → bundleOf xs ≡ fromEntries xs (addr i) (addr t)
+    unfolding bundleOf
+    bundle-on d i t f g =
+        let h = word-here xs 8 t g in
+        rw (e, eq-eqb first 2 d, le-leb 12 (length xs) (h .0), ← (word-here xs 4 i f .1), ← (h .1))

@@ -1,0 +1,2 @@
+-- The laws that the proofs of this crate and the crates above cite.
+pub mod Laws
