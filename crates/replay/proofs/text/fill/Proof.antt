@@ -1,0 +1,72 @@
+-- The place in `out` is tested before each store. The measure is what is left of the text. Assumes nothing.
+use lib.ListN.{length}
+use Prim.Native.Nat.{_-_, _≤_, _*_}
+use borrow.Author.Needs.{needs}
+use Rattle.replay.proofs.text.fill.Statement.{statement}
+use Rattle.replay.proofs.text.fill.Tie as tie
+use Rattle.replay.proofs.text.fill.Reads as reads
+use Rattle.replay.proofs.text.fill.Lts as lts
+use Rattle.replay.proofs.text.digit.Reads as digit-reads
+use Rattle.replay.proofs.text.extended.Reads as extended-reads
+use Rattle.replay.proofs.text.shifted.Reads as shifted-reads
+
+abbrev Inv-loop : tie.InvT-loop
+Inv-loop text at out₀ i₀ k₀ out i k = k ≤ 2 * 131200
+
+abbrev μ-loop : tie.MeasureT-loop
+μ-loop text at out₀ i₀ k₀ out i k = length text - i
+
+loop-holds : tie.Need-loop-holds Inv-loop μ-loop
+loop-holds c = search needs
+
+shared-slice-read-digit : tie.Need-shared-slice-read-digit Inv-loop μ-loop
+shared-slice-read-digit c = search needs
+
+digit-requires : tie.Need-digit-requires Inv-loop μ-loop
+digit-requires c κs = search needs
+
+element-copy-out-b : tie.Need-element-copy-out-b Inv-loop μ-loop
+element-copy-out-b c = search needs
+
+shifted-requires : tie.Need-shifted-requires Inv-loop μ-loop
+shifted-requires c κs = search needs
+
+element-write-out : tie.Need-element-write-out Inv-loop μ-loop
+element-write-out c = search needs
+
+add-k : tie.Need-add-k Inv-loop μ-loop
+add-k c = search needs
+
+add-i : tie.Need-add-i Inv-loop μ-loop
+add-i c = search needs
+
+loop-less : tie.Need-loop-less Inv-loop μ-loop
+loop-less c = search needs
+
+loop-again : tie.Need-loop-again Inv-loop μ-loop
+loop-again c = search needs
+
+extended-requires : tie.Need-extended-requires Inv-loop μ-loop
+extended-requires c κs = search needs
+
+returns : tie.Need-returns Inv-loop μ-loop
+returns c = search needs
+
+pub fill-spec : {M : Type 1} → statement M
+fill-spec =
+    tie.close
+    (tie.spec
+    Inv-loop
+    μ-loop
+    loop-holds
+    shared-slice-read-digit
+    digit-requires
+    element-copy-out-b
+    shifted-requires
+    element-write-out
+    add-k
+    add-i
+    loop-less
+    loop-again
+    extended-requires
+    returns)

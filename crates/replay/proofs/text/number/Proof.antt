@@ -1,0 +1,63 @@
+-- The measure is what is left of the text. Assumes nothing.
+use lib.ListN.{length}
+use Prim.Native.Nat.{_-_, _≤_}
+use borrow.Author.Needs.{needs}
+use Rattle.replay.proofs.text.number.Statement.{statement}
+use Rattle.replay.proofs.text.number.Tie as tie
+use Rattle.replay.proofs.text.number.Reads as reads
+use Rattle.replay.proofs.text.number.Lts as lts
+use Rattle.replay.proofs.text.digit.Reads as digit-reads
+use Rattle.replay.proofs.text.past.Reads as past-reads
+
+abbrev Inv-loop : tie.InvT-loop
+Inv-loop text at value₀ i₀ value i = Unit
+
+abbrev μ-loop : tie.MeasureT-loop
+μ-loop text at value₀ i₀ value i = length text - i
+
+loop-holds : tie.Need-loop-holds Inv-loop μ-loop
+loop-holds c = search needs
+
+shared-slice-read-digit : tie.Need-shared-slice-read-digit Inv-loop μ-loop
+shared-slice-read-digit c = search needs
+
+digit-requires : tie.Need-digit-requires Inv-loop μ-loop
+digit-requires c κs = search needs
+
+mul-value : tie.Need-mul-value Inv-loop μ-loop
+mul-value c = search needs
+
+add-value : tie.Need-add-value Inv-loop μ-loop
+add-value c = search needs
+
+add-i : tie.Need-add-i Inv-loop μ-loop
+add-i c = search needs
+
+loop-less : tie.Need-loop-less Inv-loop μ-loop
+loop-less c = search needs
+
+loop-again : tie.Need-loop-again Inv-loop μ-loop
+loop-again c = search needs
+
+past-requires : tie.Need-past-requires Inv-loop μ-loop
+past-requires c κs = search needs
+
+returns : tie.Need-returns Inv-loop μ-loop
+returns c = search needs
+
+pub number-spec : {M : Type 1} → statement M
+number-spec =
+    tie.close
+    (tie.spec
+    Inv-loop
+    μ-loop
+    loop-holds
+    shared-slice-read-digit
+    digit-requires
+    mul-value
+    add-value
+    add-i
+    loop-less
+    loop-again
+    past-requires
+    returns)
