@@ -33,7 +33,7 @@ unfoldable pub laidOf : Addr → Addr → ℕ → ℕ → BundleRead
 laidOf a b n m =
     onCheck (indexRule (8 * n) a)
     (onCheck (tableRule (4 * m) b)
-    (BundleRead.Is (record { «index_address» = a; «table_address» = b; index = off 16; entries = n; table = off (20 + 8 * n); words = m }))
+    (BundleRead.Is (record { «index_address» = a; «table_address» = b; index = off 16; «index_bytes» = 8 * n; table = off (20 + 8 * n); «table_bytes» = 4 * m }))
     BundleRead.Refused)
     BundleRead.Refused
 

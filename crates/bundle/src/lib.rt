@@ -13,9 +13,9 @@ pub struct Bundle {
     pub index_address: Addr,
     pub table_address: Addr,
     pub index: Off,
-    pub entries: u32,
+    pub index_bytes: u32,
     pub table: Off,
-    pub words: u32,
+    pub table_bytes: u32,
 }
 
 pub enum BundleRead {

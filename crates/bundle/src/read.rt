@@ -1,7 +1,7 @@
 // The layout of a bundle, read from its start.
 ghost use mathlib.Core.Path.{_≡_};
 ghost use Prim.Native.Nat.{_≤_};
-ghost use Rattle.bundle.specs.Bundle.{mostEntries, fromEntries, fromWords, laidOf};
+ghost use Rattle.bundle.specs.Bundle.{mostEntries, mostWords, fromEntries, fromWords, laidOf};
 use crate::Bundle;
 use crate::BundleRead;
 use section::Addr;
@@ -14,7 +14,7 @@ use section::Word;
 
 // The bundle of n entries and m words, where each address leaves room for its section below 2^32.
 fn laid(index_address: Addr, table_address: Addr, n: u32, m: u32) -> BundleRead
-    requires { ⌜ n ≤ mostEntries ⌝ }
+    requires { ⌜ (n ≤ mostEntries) × (m ≤ mostWords) ⌝ }
     ensures { λ r. ⌜ r ≡ laidOf «index_address» «table_address» n m ⌝ }
 {
     let index_bytes = 8 * (n as usize);
@@ -27,9 +27,9 @@ fn laid(index_address: Addr, table_address: Addr, n: u32, m: u32) -> BundleRead
                 index_address,
                 table_address,
                 index: Off(16),
-                entries: n,
+                index_bytes: 8 * n,
                 table: Off(20 + 8 * n),
-                words: m,
+                table_bytes: 4 * m,
             }),
         },
     }

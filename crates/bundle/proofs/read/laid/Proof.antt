@@ -36,8 +36,14 @@ enum-told-2 c = search needs
 mul-t15 : tie.Need-mul-t15
 mul-t15 c = search needs
 
-add-t16 : tie.Need-add-t16
-add-t16 c = search needs
+mul-t16 : tie.Need-mul-t16
+mul-t16 c = search needs
+
+add-t17 : tie.Need-add-t17
+add-t17 c = search needs
+
+mul-t19 : tie.Need-mul-t19
+mul-t19 c = search needs
 
 returns : tie.Need-returns
 unfolding laidOf
@@ -64,7 +70,9 @@ laid-spec =
     enum-known-r-2
     enum-told-2
     mul-t15
-    add-t16
+    mul-t16
+    add-t17
+    mul-t19
     returns
     returns-2
     returns-3)

@@ -1,0 +1,42 @@
+// The C library: each call returns the refusal's number, 0 for none, and fills its row, all zero at a refusal.
+ghost use mathlib.Core.Path.{_≡_};
+ghost use Rattle.section.specs.Answer.{Told};
+ghost use Rattle.section.specs.Place.{addr};
+ghost use Rattle.section.specs.Prel31.{prel31Of};
+ghost use Rattle.bundle.specs.Answers.{bundleAnswer};
+ghost use Rattle.bundle.specs.Bundle.{bundleOf};
+use bundle::BundleRead;
+use section::Addr;
+
+// The target of a word that stands at `place`.
+#[no_mangle]
+pub extern "C" fn anrukfal_prel31(word: u32, place: u32) -> u32
+    ensures { λ r. ⌜ r ≡ prel31Of word (addr place) .0 ⌝ }
+{
+    let target = section::prel31(word, Addr(place));
+    target.0
+}
+
+// Index address, table address, offset and bytes of the index, offset and bytes of the table.
+#[no_mangle]
+pub extern "C" fn anrukfal_bundle(bytes: &[u8], row: &mut [u32; 6]) -> u32
+    ensures { λ r. ⌜ Told (bundleAnswer (bundleOf (now (bytes .entry)))) r (now (row .exit)) ⌝ }
+{
+    match bundle::read_bundle(bytes) {
+        BundleRead::Is(b) => {
+            *row = [
+                b.index_address.0,
+                b.table_address.0,
+                b.index.0,
+                b.index_bytes,
+                b.table.0,
+                b.table_bytes,
+            ];
+            0
+        }
+        BundleRead::Refused(r) => {
+            *row = [0; 6];
+            r.number()
+        }
+    }
+}
