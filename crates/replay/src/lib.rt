@@ -1,2 +1,81 @@
-// Replays cases that a text lists: each is printed with its answer, the refusal's number and the row.
+// Replays cases that a text lists, one to a line: each line is written again with its answer, the refusal's number and the row, in hex.
+use crate::text::ROOM;
+
 mod text;
+
+// A number as 32 bits.
+fn low(x: u64) -> u32 {
+    (x % 0x1_0000_0000) as u32
+}
+
+fn show_number(x: u32) {
+    io::write_all(1, b" ");
+    io::print_hex(1, x as u64, 1);
+}
+
+// The answer of a case: its number, and rows of each length.
+fn show(number: u32) {
+    io::write_all(1, b" =");
+    show_number(number);
+}
+
+fn show1(number: u32, row: &[u32; 1]) {
+    show(number);
+    show_number(row[0]);
+}
+
+fn show2(number: u32, row: &[u32; 2]) {
+    show(number);
+    show_number(row[0]);
+    show_number(row[1]);
+}
+
+fn show6(number: u32, row: &[u32; 6]) {
+    show(number);
+    for i in 0..6 {
+        show_number(row[i]);
+    }
+}
+
+// relative WORD PLACE
+fn relative(line: &[u8], at: usize) {
+    let word = text::number(line, at);
+    let place = text::number(line, word.next);
+    show(0);
+    show_number(anrukfal::anrukfal_prel31(low(word.value), low(place.value)));
+}
+
+// bundle BYTES
+fn bundle(line: &[u8], at: usize) {
+    let got = text::fill(line, at);
+    let bytes = got.bytes;
+    let n = got.len;
+    let mut row = [1u32; 6];
+    let number = anrukfal::anrukfal_bundle(&bytes[..n], &mut row);
+    show6(number, &row);
+}
+
+// One case: the first letter of its word says which call it is.
+fn case(line: &[u8]) {
+    io::write_all(1, line);
+    let at = text::word_end(line);
+    if at < line.len() {
+        let first = line[0];
+        match first {
+            b'r' => relative(line, at),
+            b'b' => bundle(line, at),
+            _ => {}
+        }
+    }
+    io::write_all(1, b"\n");
+}
+
+// Every line of a text.
+pub fn replay(cases: &[u8]) {
+    let mut at: usize = 0;
+    while at < cases.len() {
+        let end = text::line_end(cases, at);
+        case(&cases[at..end]);
+        at = end + 1;
+    }
+}

@@ -10,7 +10,9 @@ pub(crate) struct Counted {
     pub next: usize,
 }
 
+// Bytes, how many they are, and the place after them.
 pub(crate) struct Filled {
+    pub bytes: [u8; ROOM],
     pub len: usize,
     pub next: usize,
 }
@@ -56,10 +58,11 @@ fn shifted(b: u8, d: u64) -> u8 {
     (b % 16) * 16 + (d % 16) as u8
 }
 
-// Bytes, two digits each, put into `out`; a `+` and a number after them are so many zero bytes more.
-pub(crate) fn fill(text: &[u8], at: usize, out: &mut [u8; ROOM]) -> Filled
-    ensures { λ r. ⌜ r .len ≤ 131200 ⌝ }
+// Bytes, two digits each; a `+` and a number after them are so many zero bytes more.
+pub(crate) fn fill(text: &[u8], at: usize) -> Filled
+    ensures { λ r. ⌜ r .len ≤ length (r .bytes) ⌝ }
 {
+    let mut out = [0u8; ROOM];
     let mut i = at;
     let mut k: usize = 0;
     while i < text.len() {
@@ -75,18 +78,19 @@ pub(crate) fn fill(text: &[u8], at: usize, out: &mut [u8; ROOM]) -> Filled
         k = k + 1;
         i = i + 1;
     }
-    extended(text, i, k / 2)
+    extended(text, i, out, k / 2)
 }
 
-fn extended(text: &[u8], at: usize, len: usize) -> Filled
-    requires { ⌜ len ≤ 131200 ⌝ }
-    ensures { λ r. ⌜ r .len ≤ 131200 ⌝ }
+fn extended(text: &[u8], at: usize, bytes: [u8; ROOM], len: usize) -> Filled
+    requires { ⌜ len ≤ length bytes ⌝ }
+    ensures { λ r. ⌜ r .len ≤ length (r .bytes) ⌝ }
 {
     if at < text.len() {
         if text[at] == b'+' {
             let more = number(text, at + 1);
-            if more.value <= (ROOM - len) as u64 {
+            if more.value <= (bytes.len() - len) as u64 {
                 return Filled {
+                    bytes,
                     len: len + more.value as usize,
                     next: more.next,
                 };
@@ -94,6 +98,7 @@ fn extended(text: &[u8], at: usize, len: usize) -> Filled
         }
     }
     Filled {
+        bytes,
         len,
         next: past(text, at),
     }
@@ -108,6 +113,18 @@ pub(crate) fn line_end(text: &[u8], at: usize) -> usize
     while i < text.len() {
         if text[i] == b'\n' {
             break;
+        }
+        i = i + 1;
+    }
+    i
+}
+
+// The place after a line's first word.
+pub(crate) fn word_end(line: &[u8]) -> usize {
+    let mut i: usize = 0;
+    while i < line.len() {
+        if line[i] == b' ' {
+            return i + 1;
         }
         i = i + 1;
     }

@@ -1,4 +1,7 @@
 -- The place in `out` is tested before each store. The measure is what is left of the text. Assumes nothing.
+use lib.ListN.{length-set}
+use native.Mathlib.Omega.{arith}
+use mathlib.Core.Path.{_≡_}
 use lib.ListN.{length}
 use Prim.Native.Nat.{_-_, _≤_, _*_}
 use borrow.Author.Needs.{needs}
@@ -11,7 +14,7 @@ use Rattle.replay.proofs.text.extended.Reads as extended-reads
 use Rattle.replay.proofs.text.shifted.Reads as shifted-reads
 
 abbrev Inv-loop : tie.InvT-loop
-Inv-loop text at out₀ i₀ k₀ out i k = k ≤ 2 * 131200
+Inv-loop text at out₀ i₀ k₀ out i k = (k ≤ 2 * length out) × (length out ≡ 131200)
 
 abbrev μ-loop : tie.MeasureT-loop
 μ-loop text at out₀ i₀ k₀ out i k = length text - i
@@ -25,14 +28,14 @@ shared-slice-read-digit c = search needs
 digit-requires : tie.Need-digit-requires Inv-loop μ-loop
 digit-requires c κs = search needs
 
-element-copy-out-b : tie.Need-element-copy-out-b Inv-loop μ-loop
-element-copy-out-b c = search needs
+array-read-b : tie.Need-array-read-b Inv-loop μ-loop
+array-read-b c = search needs
 
 shifted-requires : tie.Need-shifted-requires Inv-loop μ-loop
 shifted-requires c κs = search needs
 
-element-write-out : tie.Need-element-write-out Inv-loop μ-loop
-element-write-out c = search needs
+array-write-out : tie.Need-array-write-out Inv-loop μ-loop
+array-write-out c = search needs
 
 add-k : tie.Need-add-k Inv-loop μ-loop
 add-k c = search needs
@@ -44,7 +47,7 @@ loop-less : tie.Need-loop-less Inv-loop μ-loop
 loop-less c = search needs
 
 loop-again : tie.Need-loop-again Inv-loop μ-loop
-loop-again c = search needs
+loop-again c = simp length-set (omega arith)
 
 extended-requires : tie.Need-extended-requires Inv-loop μ-loop
 extended-requires c κs = search needs
@@ -61,9 +64,9 @@ fill-spec =
     loop-holds
     shared-slice-read-digit
     digit-requires
-    element-copy-out-b
+    array-read-b
     shifted-requires
-    element-write-out
+    array-write-out
     add-k
     add-i
     loop-less

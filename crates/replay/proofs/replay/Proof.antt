@@ -1,0 +1,63 @@
+-- Each line ends after its begin. The measure is what is left of the cases. Assumes nothing.
+use lib.ListN.{length}
+use Prim.Native.Nat.{_-_, _≤_}
+use borrow.Author.Needs.{needs}
+use Rattle.replay.proofs.replay.Statement.{statement}
+use Rattle.replay.proofs.replay.Tie as tie
+use Rattle.replay.proofs.replay.Reads as reads
+use Rattle.replay.proofs.replay.Lts as lts
+use Rattle.replay.proofs.case.Reads as case-reads
+use Rattle.replay.proofs.text.line_end.Reads as line-end-reads
+
+abbrev Inv-loop : tie.InvT-loop
+Inv-loop cases at₀ at = Unit
+
+abbrev μ-loop : tie.MeasureT-loop
+μ-loop cases at₀ at = length cases - at
+
+loop-holds : tie.Need-loop-holds Inv-loop μ-loop
+loop-holds c = search needs
+
+line-end-requires : tie.Need-line-end-requires Inv-loop μ-loop
+line-end-requires c κs = search needs
+
+sub-case : tie.Need-sub-case Inv-loop μ-loop
+sub-case c = search needs
+
+part-case-start : tie.Need-part-case-start Inv-loop μ-loop
+part-case-start c = search needs
+
+part-case-end : tie.Need-part-case-end Inv-loop μ-loop
+part-case-end c = search needs
+
+case-requires : tie.Need-case-requires Inv-loop μ-loop
+case-requires c κs = search needs
+
+add-at : tie.Need-add-at Inv-loop μ-loop
+add-at c = search needs
+
+loop-less : tie.Need-loop-less Inv-loop μ-loop
+loop-less c = search needs
+
+loop-again : tie.Need-loop-again Inv-loop μ-loop
+loop-again c = search needs
+
+returns : tie.Need-returns Inv-loop μ-loop
+returns c = search needs
+
+pub replay-spec : {M : Type 1} → statement M
+replay-spec =
+    tie.close
+    (tie.spec
+    Inv-loop
+    μ-loop
+    loop-holds
+    line-end-requires
+    sub-case
+    part-case-start
+    part-case-end
+    case-requires
+    add-at
+    loop-less
+    loop-again
+    returns)
