@@ -3,10 +3,14 @@ ghost use mathlib.Core.Path.{_≡_};
 ghost use Rattle.section.specs.Answer.{Told};
 ghost use Rattle.section.specs.Place.{addr};
 ghost use Rattle.section.specs.Prel31.{prel31Of};
+ghost use Rattle.pointer.specs.Answers.{readAnswer};
+ghost use Rattle.pointer.specs.Pointer.{pointerOf};
 ghost use Rattle.bundle.specs.Answers.{bundleAnswer};
 ghost use Rattle.bundle.specs.Bundle.{bundleOf};
 use bundle::BundleRead;
+use pointer::Read;
 use section::Addr;
+use section::Off;
 
 // The target of a word that stands at `place`.
 #[no_mangle]
@@ -15,6 +19,23 @@ pub extern "C" fn anrukfal_prel31(word: u32, place: u32) -> u32
 {
     let target = section::prel31(word, Addr(place));
     target.0
+}
+
+// Value, next position.
+#[no_mangle]
+pub extern "C" fn anrukfal_pointer(data: &[u8], at: u32, encoding: u8, row: &mut [u32; 2]) -> u32
+    ensures { λ r. ⌜ Told (readAnswer (pointerOf (now («data» .entry)) at encoding)) r (now (row .exit)) ⌝ }
+{
+    match pointer::pointer(data, Off(at), encoding) {
+        Read::Value(value, next) => {
+            *row = [value, next.0];
+            0
+        }
+        Read::Refused(r) => {
+            *row = [0; 2];
+            r.number()
+        }
+    }
 }
 
 // Index address, table address, offset and bytes of the index, offset and bytes of the table.

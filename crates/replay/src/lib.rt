@@ -45,6 +45,23 @@ fn relative(line: &[u8], at: usize) {
     show_number(anrukfal::anrukfal_prel31(low(word.value), low(place.value)));
 }
 
+// pointer ENCODING AT DATA
+fn pointer(line: &[u8], at: usize) {
+    let encoding = text::number(line, at);
+    let place = text::number(line, encoding.next);
+    let got = text::fill(line, place.next);
+    let bytes = got.bytes;
+    let n = got.len;
+    let mut row = [1u32; 2];
+    let number = anrukfal::anrukfal_pointer(
+        &bytes[..n],
+        low(place.value),
+        (encoding.value % 256) as u8,
+        &mut row,
+    );
+    show2(number, &row);
+}
+
 // bundle BYTES
 fn bundle(line: &[u8], at: usize) {
     let got = text::fill(line, at);
@@ -63,6 +80,7 @@ fn case(line: &[u8]) {
         let first = line[0];
         match first {
             b'r' => relative(line, at),
+            b'p' => pointer(line, at),
             b'b' => bundle(line, at),
             _ => {}
         }

@@ -1,0 +1,4 @@
+pub mod Number
+pub mod Pointer
+pub mod Reads
+pub mod Answers
