@@ -5,12 +5,17 @@ ghost use Rattle.section.specs.Place.{addr};
 ghost use Rattle.section.specs.Prel31.{prel31Of};
 ghost use Rattle.pointer.specs.Answers.{readAnswer};
 ghost use Rattle.pointer.specs.Pointer.{pointerOf};
+ghost use Rattle.instruction.specs.Answers.{decodedAnswer};
+ghost use Rattle.instruction.specs.Decode.{decodeOf};
 ghost use Rattle.bundle.specs.Answers.{bundleAnswer};
 ghost use Rattle.bundle.specs.Bundle.{bundleOf};
 use bundle::BundleRead;
+use instruction::Decoded;
 use pointer::Read;
 use section::Addr;
 use section::Off;
+
+mod rows;
 
 // The target of a word that stands at `place`.
 #[no_mangle]
@@ -33,6 +38,27 @@ pub extern "C" fn anrukfal_pointer(data: &[u8], at: u32, encoding: u8, row: &mut
         }
         Read::Refused(r) => {
             *row = [0; 2];
+            r.number()
+        }
+    }
+}
+
+// Kind, a, b, next position.
+#[no_mangle]
+pub extern "C" fn anrukfal_instruction(words: &[u8], at: u32, row: &mut [u32; 4]) -> u32
+    ensures { λ r. ⌜ Told (decodedAnswer at (decodeOf (now (words .entry)) at)) r (now (row .exit)) ⌝ }
+{
+    match instruction::decode(words, at) {
+        Decoded::Step(i, next) => {
+            *row = rows::instruction_row(i, next);
+            0
+        }
+        Decoded::End => {
+            *row = [0, 0, 0, at];
+            0
+        }
+        Decoded::Refused(r) => {
+            *row = [0; 4];
             r.number()
         }
     }

@@ -30,6 +30,13 @@ fn show2(number: u32, row: &[u32; 2]) {
     show_number(row[1]);
 }
 
+fn show4(number: u32, row: &[u32; 4]) {
+    show(number);
+    for i in 0..4 {
+        show_number(row[i]);
+    }
+}
+
 fn show6(number: u32, row: &[u32; 6]) {
     show(number);
     for i in 0..6 {
@@ -62,6 +69,17 @@ fn pointer(line: &[u8], at: usize) {
     show2(number, &row);
 }
 
+// instruction AT WORDS
+fn instruction(line: &[u8], at: usize) {
+    let place = text::number(line, at);
+    let got = text::fill(line, place.next);
+    let bytes = got.bytes;
+    let n = got.len;
+    let mut row = [1u32; 4];
+    let number = anrukfal::anrukfal_instruction(&bytes[..n], low(place.value), &mut row);
+    show4(number, &row);
+}
+
 // bundle BYTES
 fn bundle(line: &[u8], at: usize) {
     let got = text::fill(line, at);
@@ -81,6 +99,7 @@ fn case(line: &[u8]) {
         match first {
             b'r' => relative(line, at),
             b'p' => pointer(line, at),
+            b'i' => instruction(line, at),
             b'b' => bundle(line, at),
             _ => {}
         }

@@ -1,0 +1,4 @@
+pub mod Bytes
+pub mod Decode
+pub mod Program
+pub mod Answers
