@@ -1,15 +1,20 @@
 // The C library: each call returns the refusal's number, 0 for none, and fills its row, all zero at a refusal.
 ghost use mathlib.Core.Path.{_≡_};
 ghost use Rattle.section.specs.Answer.{Told};
-ghost use Rattle.section.specs.Place.{addr};
+ghost use Rattle.section.specs.Place.{addr, off};
 ghost use Rattle.section.specs.Prel31.{prel31Of};
 ghost use Rattle.pointer.specs.Answers.{readAnswer};
 ghost use Rattle.pointer.specs.Pointer.{pointerOf};
 ghost use Rattle.instruction.specs.Answers.{decodedAnswer};
 ghost use Rattle.instruction.specs.Decode.{decodeOf};
+ghost use Rattle.entry.specs.Answers.{indexAnswer, tableAnswer};
+ghost use Rattle.entry.specs.Index.{indexEntryOf};
+ghost use Rattle.entry.specs.Table.{tableEntryOf};
 ghost use Rattle.bundle.specs.Answers.{bundleAnswer};
 ghost use Rattle.bundle.specs.Bundle.{bundleOf};
 use bundle::BundleRead;
+use entry::IndexRead;
+use entry::TableRead;
 use instruction::Decoded;
 use pointer::Read;
 use section::Addr;
@@ -59,6 +64,51 @@ pub extern "C" fn anrukfal_instruction(words: &[u8], at: u32, row: &mut [u32; 4]
         }
         Decoded::Refused(r) => {
             *row = [0; 4];
+            r.number()
+        }
+    }
+}
+
+// Function, kind, selector or table address, offset of the words, words, skip.
+#[no_mangle]
+pub extern "C" fn anrukfal_index_entry(
+    index: &[u8],
+    index_address: u32,
+    number: u32,
+    row: &mut [u32; 6],
+) -> u32
+    ensures { λ r. ⌜ Told (indexAnswer (indexEntryOf (now (index .entry)) (addr «index_address») number)) r (now (row .exit)) ⌝ }
+{
+    match entry::index_entry(index, Addr(index_address), number) {
+        IndexRead::Entry(e) => {
+            let content = e.content;
+            *row = rows::index_row(e.function, content);
+            0
+        }
+        IndexRead::Refused(r) => {
+            *row = [0; 6];
+            r.number()
+        }
+    }
+}
+
+// Kind, selector or personality address, offset of the words, words, skip, offset of the language data.
+#[no_mangle]
+pub extern "C" fn anrukfal_table_entry(
+    table: &[u8],
+    table_address: u32,
+    offset: u32,
+    row: &mut [u32; 6],
+) -> u32
+    ensures { λ r. ⌜ Told (tableAnswer (tableEntryOf (now (table .entry)) (addr «table_address») (off offset))) r (now (row .exit)) ⌝ }
+{
+    match entry::table_entry(table, Addr(table_address), Off(offset)) {
+        TableRead::Entry(e) => {
+            *row = rows::table_row(e);
+            0
+        }
+        TableRead::Refused(r) => {
+            *row = [0; 6];
             r.number()
         }
     }

@@ -1,7 +1,13 @@
 // The rows of answers that have kinds.
 ghost use mathlib.Core.Path.{_≡_};
+ghost use mathlib.Core.List.{_∷_};
+ghost use Rattle.entry.specs.Answers.{personalityValue, contentRow, tableKind, tableRow};
 ghost use Rattle.instruction.specs.Answers.{instructionRow};
+use entry::Content;
+use entry::Personality;
+use entry::TableEntry;
 use instruction::Instruction;
+use section::Addr;
 
 // Kind, a, b, next position.
 pub(crate) fn instruction_row(i: Instruction, next: u32) -> [u32; 4]
@@ -19,4 +25,56 @@ pub(crate) fn instruction_row(i: Instruction, next: u32) -> [u32; 4]
         Instruction::Unimplemented => [9, 0, 0, next],
         Instruction::Error => [10, 0, 0, next],
     }
+}
+
+// A selector, or the address of a personality.
+fn personality_value(p: Personality) -> u32
+    ensures { λ r. ⌜ r ≡ personalityValue p ⌝ }
+{
+    match p {
+        Personality::Compact(selector) => selector as u32,
+        Personality::Generic(a) => a.0,
+    }
+}
+
+// Function, kind, selector or table address, offset of the words, words, skip.
+pub(crate) fn index_row(function: Addr, content: Content) -> [u32; 6]
+    ensures { λ r. ⌜ r ≡ function .0 ∷ contentRow content ⌝ }
+{
+    match content {
+        Content::CannotUnwind => [function.0, 0, 0, 0, 0, 0],
+        Content::Compact(p, s) => [
+            function.0,
+            1,
+            personality_value(p),
+            s.at.0,
+            s.words,
+            s.skip,
+        ],
+        Content::Table(a) => [function.0, 4, a.0, 0, 0, 0],
+    }
+}
+
+fn table_kind(p: Personality) -> u32
+    ensures { λ r. ⌜ r ≡ tableKind p ⌝ }
+{
+    match p {
+        Personality::Compact(_) => 2,
+        Personality::Generic(_) => 3,
+    }
+}
+
+// Kind, selector or personality address, offset of the words, words, skip, offset of the language data.
+pub(crate) fn table_row(e: TableEntry) -> [u32; 6]
+    ensures { λ r. ⌜ r ≡ tableRow e ⌝ }
+{
+    let p = e.personality;
+    [
+        table_kind(p),
+        personality_value(p),
+        e.span.at.0,
+        e.span.words,
+        e.span.skip,
+        e.language.0,
+    ]
 }

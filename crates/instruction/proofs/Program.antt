@@ -18,7 +18,7 @@ use Rattle.section.proofs.Picks.{by-test}
 use Rattle.section.proofs.Checks.{need-le, and-exact, named, no-fault}
 use Rattle.section.proofs.Walks.{walk-exact, trail-item, trail-done, trail-bad, trail-last, checked-end, checked-stop, checked-more}
 use Rattle.instruction.specs.Bytes.{Words}
-use Rattle.instruction.specs.Decode.{decodeOf}
+use Rattle.instruction.specs.Decode.{decodeOf, Named}
 use Rattle.instruction.specs.Program.{endsOf, lookOf, instructionAt, programOf, faultOf, auditInstructionsOf, Executable, CleanInstructions, Audited}
 use Rattle.instruction.specs.declared.Instruction.{Instruction}
 use Rattle.instruction.specs.declared.Decoded.{Decoded}
@@ -93,24 +93,25 @@ module _ (w : List ℕ) (at : ℕ) where
     pub program-starts : (t : Trail Instruction) × (programOf w at ≡ Trail.more i t)
     program-starts = by-test (endsOf i) (λ h. (Trail.end, program-last h)) (λ h. (programOf w m, program-next h))
 
--- ---- whole words are decoded to their end: nothing stops the walk
-pub data Unstopped : Trail Instruction → Type 0 where
-  end : Unstopped Trail.end
-  more : {i : Instruction} {t : Trail Instruction} → Unstopped t → Unstopped (Trail.more i t)
+-- ---- whole words are decoded to their end: nothing stops the walk, and each instruction is as decoded
+pub data Every (P : Instruction → Type 0) : Trail Instruction → Type 0 where
+  end : Every P Trail.end
+  more : {i : Instruction} {t : Trail Instruction} → P i → Every P t → Every P (Trail.more i t)
 
-unstopped-from : (w : List ℕ) → Words w → (n at : ℕ) → length w ≤ at + n → Unstopped (programOf w at)
-unstopped-from w x zero at h = rw (program-end w at (decode-past w at x (omega arith))) Unstopped.end
-unstopped-from w x (suc n) at h = decode-each w at (λ d. decodeOf w at ≡ d → Unstopped (programOf w at))
+every-from : (w : List ℕ) → Words w → (n at : ℕ) → length w ≤ at + n → Every Named (programOf w at)
+every-from w x zero at h = rw (program-end w at (decode-past w at x (omega arith))) Every.end
+every-from w x (suc n) at h =
+    decode-each w at (λ d. decodeOf w at ≡ d → Every Named (programOf w at))
     (λ i m r e.
     by-test (endsOf i)
-    (λ t. rw (program-last w at i m e t) (Unstopped.more Unstopped.end))
-    (λ t. rw (program-next w at i m e t) (Unstopped.more (unstopped-from w x n m (omega arith)))))
-    (λ _ _ e. rw (program-end w at e) Unstopped.end)
+    (λ t. rw (program-last w at i m e t) (Every.more (r .register) Every.end))
+    (λ t. rw (program-next w at i m e t) (Every.more (r .register) (every-from w x n m (omega arith)))))
+    (λ _ _ e. rw (program-end w at e) Every.end)
     (λ r _ e. decode-whole w at x r e)
     refl
 
-pub program-unstopped : (w : List ℕ) → Words w → (at : ℕ) → Unstopped (programOf w at)
-program-unstopped w x at = unstopped-from w x (length w) at (omega arith)
+pub program-every : (w : List ℕ) → Words w → (at : ℕ) → Every Named (programOf w at)
+program-every w x at = every-from w x (length w) at (omega arith)
 
 -- ---- the audit from a position
 abbrev pub auditFrom : List ℕ → ℕ → Check
@@ -167,9 +168,9 @@ both-audited : (a b : Check) → Audited a → Audited b → Audited (andThen a 
 both-audited Fine b p q = q
 both-audited (Fault r) b p q = p
 
-trail-audited : {t : Trail Instruction} → Unstopped t → Audited (checked faultOf t)
-trail-audited Unstopped.end = rw (checked-end faultOf) Audited.fine
-trail-audited (Unstopped.more {i = i} {t = t} u) = rw (checked-more faultOf i t) (both-audited (faultOf i) _ (fault-audited i) (trail-audited u))
+trail-audited : {P : Instruction → Type 0} {t : Trail Instruction} → Every P t → Audited (checked faultOf t)
+trail-audited Every.end = rw (checked-end faultOf) Audited.fine
+trail-audited (Every.more {i = i} {t = t} p u) = rw (checked-more faultOf i t) (both-audited (faultOf i) _ (fault-audited i) (trail-audited u))
 
 pub audit-audited : (w : List ℕ) (skip : ℕ) → Words w → skip ≤ 2 → Audited (auditInstructionsOf w skip)
-audit-audited w skip x h = rw (audit-from w skip h) (trail-audited (program-unstopped w x skip))
+audit-audited w skip x h = rw (audit-from w skip h) (trail-audited (program-every w x skip))

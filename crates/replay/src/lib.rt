@@ -80,6 +80,40 @@ fn instruction(line: &[u8], at: usize) {
     show4(number, &row);
 }
 
+// entry INDEX_ADDRESS NUMBER INDEX
+fn entry(line: &[u8], at: usize) {
+    let address = text::number(line, at);
+    let entry = text::number(line, address.next);
+    let got = text::fill(line, entry.next);
+    let bytes = got.bytes;
+    let n = got.len;
+    let mut row = [1u32; 6];
+    let number = anrukfal::anrukfal_index_entry(
+        &bytes[..n],
+        low(address.value),
+        low(entry.value),
+        &mut row,
+    );
+    show6(number, &row);
+}
+
+// table TABLE_ADDRESS OFFSET TABLE
+fn table(line: &[u8], at: usize) {
+    let address = text::number(line, at);
+    let offset = text::number(line, address.next);
+    let got = text::fill(line, offset.next);
+    let bytes = got.bytes;
+    let n = got.len;
+    let mut row = [1u32; 6];
+    let number = anrukfal::anrukfal_table_entry(
+        &bytes[..n],
+        low(address.value),
+        low(offset.value),
+        &mut row,
+    );
+    show6(number, &row);
+}
+
 // bundle BYTES
 fn bundle(line: &[u8], at: usize) {
     let got = text::fill(line, at);
@@ -100,6 +134,8 @@ fn case(line: &[u8]) {
             b'r' => relative(line, at),
             b'p' => pointer(line, at),
             b'i' => instruction(line, at),
+            b'e' => entry(line, at),
+            b't' => table(line, at),
             b'b' => bundle(line, at),
             _ => {}
         }

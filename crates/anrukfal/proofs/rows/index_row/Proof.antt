@@ -1,0 +1,40 @@
+-- Each arm is told its variant, and the row computes there. Assumes nothing.
+use borrow.Author.Needs.{needs}
+use Rattle.anrukfal.proofs.rows.index_row.Statement.{statement}
+use Rattle.anrukfal.proofs.rows.index_row.Tie as tie
+use Rattle.anrukfal.proofs.rows.index_row.Reads as reads
+use Rattle.anrukfal.proofs.rows.index_row.Lts as lts
+use Rattle.anrukfal.proofs.rows.personality_value.Reads as personality-value-reads
+
+enum-told : tie.Need-enum-told
+enum-told c = search needs
+
+enum-known-content : tie.Need-enum-known-content
+enum-known-content c = search needs
+
+personality-value-requires : tie.Need-personality-value-requires
+personality-value-requires c κs = search needs
+
+enum-known-content-2 : tie.Need-enum-known-content-2
+enum-known-content-2 c = search needs
+
+returns : tie.Need-returns
+returns c = rw (c .enum-told .given .1)
+
+returns-2 : tie.Need-returns-2
+returns-2 c = rw (c .before .before .content .given .1, c .personality-value .ensures)
+
+returns-3 : tie.Need-returns-3
+returns-3 c = rw (c .before .content2 .given .1)
+
+pub index-row-spec : {M : Type 1} → statement M
+index-row-spec =
+    tie.close
+    (tie.spec
+    enum-told
+    enum-known-content
+    personality-value-requires
+    enum-known-content-2
+    returns
+    returns-2
+    returns-3)
