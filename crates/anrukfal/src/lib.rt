@@ -10,12 +10,15 @@ ghost use Rattle.instruction.specs.Decode.{decodeOf};
 ghost use Rattle.entry.specs.Answers.{indexAnswer, tableAnswer};
 ghost use Rattle.entry.specs.Index.{indexEntryOf};
 ghost use Rattle.entry.specs.Table.{tableEntryOf};
+ghost use Rattle.lsda.specs.Answers.{siteAnswer};
+ghost use Rattle.lsda.specs.Sites.{callSiteOf};
 ghost use Rattle.bundle.specs.Answers.{bundleAnswer};
 ghost use Rattle.bundle.specs.Bundle.{bundleOf};
 use bundle::BundleRead;
 use entry::IndexRead;
 use entry::TableRead;
 use instruction::Decoded;
+use lsda::SiteFound;
 use pointer::Read;
 use section::Addr;
 use section::Off;
@@ -109,6 +112,28 @@ pub extern "C" fn anrukfal_table_entry(
         }
         TableRead::Refused(r) => {
             *row = [0; 6];
+            r.number()
+        }
+    }
+}
+
+// Start, end, pad, has action, action.
+#[no_mangle]
+pub extern "C" fn anrukfal_call_site(
+    data: &[u8],
+    function: u32,
+    counter: u32,
+    row: &mut [u32; 5],
+) -> u32
+    ensures { λ r. ⌜ Told (siteAnswer (callSiteOf (now («data» .entry)) (addr function) (addr counter))) r (now (row .exit)) ⌝ }
+{
+    match lsda::call_site(data, Addr(function), Addr(counter)) {
+        SiteFound::Is(site) => {
+            *row = rows::site_row(site);
+            0
+        }
+        SiteFound::Refused(r) => {
+            *row = [0; 5];
             r.number()
         }
     }

@@ -3,10 +3,14 @@ ghost use mathlib.Core.Path.{_≡_};
 ghost use mathlib.Core.List.{_∷_};
 ghost use Rattle.entry.specs.Answers.{personalityValue, contentRow, tableKind, tableRow};
 ghost use Rattle.instruction.specs.Answers.{instructionRow};
+ghost use Rattle.lsda.specs.Answers.{padNumber, hasAction, actionNumber, siteRow};
 use entry::Content;
 use entry::Personality;
 use entry::TableEntry;
 use instruction::Instruction;
+use lsda::Action;
+use lsda::CallSite;
+use lsda::Pad;
 use section::Addr;
 
 // Kind, a, b, next position.
@@ -76,5 +80,48 @@ pub(crate) fn table_row(e: TableEntry) -> [u32; 6]
         e.span.words,
         e.span.skip,
         e.language.0,
+    ]
+}
+
+// No pad is 0.
+fn pad_number(p: Pad) -> u32
+    ensures { λ r. ⌜ r ≡ padNumber p ⌝ }
+{
+    match p {
+        Pad::None => 0,
+        Pad::At(a) => a.0,
+    }
+}
+
+fn has_action(a: Action) -> u32
+    ensures { λ r. ⌜ r ≡ hasAction a ⌝ }
+{
+    match a {
+        Action::None => 0,
+        Action::Record(_) => 1,
+    }
+}
+
+fn action_number(a: Action) -> u32
+    ensures { λ r. ⌜ r ≡ actionNumber a ⌝ }
+{
+    match a {
+        Action::None => 0,
+        Action::Record(n) => n,
+    }
+}
+
+// Start, end, pad, has action, action.
+pub(crate) fn site_row(site: CallSite) -> [u32; 5]
+    ensures { λ r. ⌜ r ≡ siteRow site ⌝ }
+{
+    let pad = site.pad;
+    let action = site.action;
+    [
+        site.start.0,
+        site.end.0,
+        pad_number(pad),
+        has_action(action),
+        action_number(action),
     ]
 }

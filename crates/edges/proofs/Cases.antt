@@ -2,12 +2,17 @@
 use mathlib.Core.Path.{_≡_, refl}
 use mathlib.Core.List.{map}
 use Rattle.section.specs.Digits.{endFrom, endOf}
-use Rattle.pointer.specs.Number.{ended, lebOf, unsignedOf, signedOf}
-use Rattle.pointer.specs.Pointer.{sized, slebOf, formed}
+use Rattle.section.specs.Sum.{plusOf}
+use Rattle.section.specs.Walk.{trailFrom, trailOf}
+use Rattle.lsda.specs.Header.{byteAt, baseAt, typesAt, tableAt, headerOf}
+use Rattle.lsda.specs.Site.{pairAt, summedOf, fieldsAt, siteAt, fitsOf, settledOf}
+use Rattle.lsda.specs.Sites.{coversOf, findIn, callSiteOf}
+use Rattle.pointer.specs.Number.{ended, lebOf, fixedOf, unsignedOf, signedOf}
+use Rattle.pointer.specs.Pointer.{sized, ulebOf, slebOf, pointerOf, formed}
 use Rattle.instruction.specs.Bytes.{wordsRule, byteOf}
 use Rattle.instruction.specs.Decode.{popMask, toSp, popRun, lowMask, longOf, popLong, vfpPop, singleOf, opcodeOf, decodeOf}
 use Rattle.edges.specs.Cases.{Case, answerOf, cases}
 
 pub all-hold : map (λ (c : Case). answerOf (c .read)) cases ≡ map (λ (c : Case). c .answer) cases
-unfolding endFrom endOf ended lebOf unsignedOf signedOf sized slebOf formed wordsRule byteOf popMask toSp popRun lowMask longOf popLong vfpPop singleOf opcodeOf decodeOf answerOf cases
+unfolding plusOf trailFrom trailOf byteAt baseAt typesAt tableAt headerOf pairAt summedOf fieldsAt siteAt fitsOf settledOf coversOf findIn callSiteOf fixedOf ulebOf pointerOf endFrom endOf ended lebOf unsignedOf signedOf sized slebOf formed wordsRule byteOf popMask toSp popRun lowMask longOf popLong vfpPop singleOf opcodeOf decodeOf answerOf cases
 all-hold = refl

@@ -7,15 +7,20 @@ use Rattle.instruction.specs.Answers.{decodedAnswer}
 use Rattle.instruction.specs.Decode.{decodeOf}
 use Rattle.pointer.specs.Answers.{readAnswer}
 use Rattle.pointer.specs.Pointer.{slebOf}
+use Rattle.section.specs.Place.{addr}
+use Rattle.lsda.specs.Answers.{siteAnswer}
+use Rattle.lsda.specs.Sites.{callSiteOf}
 
--- the instruction at a position of words, the SLEB that bytes begin with
+-- the instruction at a position of words, the SLEB that bytes begin with, the call site of language data for a function and a counter
 pub data Read : Type 0 where
   instruction : List ℕ → ℕ → Read
   sleb : List ℕ → Read
+  site : List ℕ → ℕ → ℕ → Read
 
 unfoldable pub answerOf : Read → Answer
 answerOf (instruction words at) = decodedAnswer at (decodeOf words at)
 answerOf (sleb bytes) = readAnswer (slebOf bytes 0)
+answerOf (site bytes function counter) = siteAnswer (callSiteOf bytes (addr function) (addr counter))
 
 pub record Case : Type 0 where
   pub read : Read
@@ -23,6 +28,10 @@ pub record Case : Type 0 where
 
 abbrev pub case : Read → List ℕ → Case
 case r row = record { read = r; answer = given row }
+
+-- language data with one site: FF FF 01 04 10 08 20 00
+abbrev pub oneSite : List ℕ
+oneSite = 0xFF ∷ 0xFF ∷ 0x01 ∷ 0x04 ∷ 0x10 ∷ 0x08 ∷ 0x20 ∷ 0x00 ∷ []
 
 -- the word in memory whose instruction bytes are a b c d
 abbrev pub word : ℕ → ℕ → ℕ → ℕ → List ℕ
@@ -73,4 +82,6 @@ cases =
     ∷ case (instruction (0xB0 ∷ 0xB0 ∷ 0xA8 ∷ 0x80 ∷ []) 2) (plain Finish 3)
     ∷ case (instruction (0xB0 ∷ 0xB0 ∷ 0xA8 ∷ 0x80 ∷ []) 3) (plain Finish 4)
     ∷ case (sleb (0x7F ∷ [])) (0xFFFFFFFF ∷ 1 ∷ [])
+    ∷ case (site oneSite 0x08001000 0x08001017) (0x08001010 ∷ 0x08001018 ∷ 0x08001020 ∷ 0 ∷ 0 ∷ [])
+    ∷ record { read = site oneSite 0x08001000 0x08001018; answer = refused 5 Refusal.NoSite }
     ∷ []

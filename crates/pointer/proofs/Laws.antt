@@ -41,6 +41,12 @@ no-form e [] h = refl
 no-form e (x ∷ xs) h = rw (ne-eqb e (x .0) (h .0)) (no-form e xs (h .1))
 
 -- ---- each reader goes on, and not past the end
+-- what keeps a LEB from being read keeps a pointer
+pub leb-why : {len : ℕ} {r : Refusal} → NoLeb len r → NoPointer len r
+leb-why (NoLeb.long h) = NoPointer.long h
+leb-why NoLeb.truncated = NoPointer.truncated
+leb-why NoLeb.value = NoPointer.value
+
 module _ (s : List ℕ) (at : ℕ) where
   abbrev Leb : Read → Type 0
   Leb = ReadsOn (NoLeb (length s)) at (length s)
@@ -48,14 +54,9 @@ module _ (s : List ℕ) (at : ℕ) where
   abbrev Pointer : Read → Type 0
   Pointer = ReadsOn (NoPointer (length s)) at (length s)
 
-  why : {r : Refusal} → NoLeb (length s) r → NoPointer (length s) r
-  why (NoLeb.long h) = NoPointer.long h
-  why NoLeb.truncated = NoPointer.truncated
-  why NoLeb.value = NoPointer.value
-
   as-pointer : (r : Read) → Leb r → Pointer r
   as-pointer r (ReadsOn.value f p q) = ReadsOn.value f p q
-  as-pointer r (ReadsOn.refused w) = ReadsOn.refused (why w)
+  as-pointer r (ReadsOn.refused w) = ReadsOn.refused (leb-why w)
 
   sized-on : (Why : Refusal → Type 0) → (tableMost < length s → Why Refusal.Section) → (r : Read) → ReadsOn Why at (length s) r → ReadsOn Why at (length s) (sized s r)
   unfolding sized

@@ -37,6 +37,13 @@ fn show4(number: u32, row: &[u32; 4]) {
     }
 }
 
+fn show5(number: u32, row: &[u32; 5]) {
+    show(number);
+    for i in 0..5 {
+        show_number(row[i]);
+    }
+}
+
 fn show6(number: u32, row: &[u32; 6]) {
     show(number);
     for i in 0..6 {
@@ -114,6 +121,23 @@ fn table(line: &[u8], at: usize) {
     show6(number, &row);
 }
 
+// callsite FUNCTION COUNTER DATA
+fn call_site(line: &[u8], at: usize) {
+    let function = text::number(line, at);
+    let counter = text::number(line, function.next);
+    let got = text::fill(line, counter.next);
+    let bytes = got.bytes;
+    let n = got.len;
+    let mut row = [1u32; 5];
+    let number = anrukfal::anrukfal_call_site(
+        &bytes[..n],
+        low(function.value),
+        low(counter.value),
+        &mut row,
+    );
+    show5(number, &row);
+}
+
 // bundle BYTES
 fn bundle(line: &[u8], at: usize) {
     let got = text::fill(line, at);
@@ -136,6 +160,7 @@ fn case(line: &[u8]) {
             b'i' => instruction(line, at),
             b'e' => entry(line, at),
             b't' => table(line, at),
+            b'c' => call_site(line, at),
             b'b' => bundle(line, at),
             _ => {}
         }

@@ -1,0 +1,4 @@
+pub mod Sums
+pub mod Turns
+pub mod Refused
+pub mod Laws

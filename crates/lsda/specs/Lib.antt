@@ -1,0 +1,6 @@
+pub mod Header
+pub mod Site
+pub mod Sites
+pub mod Reach
+pub mod Reasons
+pub mod Answers

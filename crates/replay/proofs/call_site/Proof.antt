@@ -1,0 +1,58 @@
+-- The bytes that were read are a part of the room. Assumes nothing.
+use lib.Seq.{length-take-le}
+use mathlib.Core.Path.{sym}
+use borrow.Author.Needs.{needs}
+use Rattle.replay.proofs.call_site.Statement.{statement}
+use Rattle.replay.proofs.call_site.Tie as tie
+use Rattle.replay.proofs.call_site.Reads as reads
+use Rattle.replay.proofs.call_site.Lts as lts
+use Rattle.anrukfal.proofs.anrukfal_call_site.Reads as anrukfal-call-site-reads
+use Rattle.replay.proofs.low.Reads as low-reads
+use Rattle.replay.proofs.show5.Reads as show5-reads
+use Rattle.replay.proofs.text.fill.Reads as fill-reads
+use Rattle.replay.proofs.text.number.Reads as number-reads
+
+number-requires : tie.Need-number-requires
+number-requires c κs = search needs
+
+number-requires-2 : tie.Need-number-requires-2
+number-requires-2 c κs = search needs
+
+fill-requires : tie.Need-fill-requires
+fill-requires c κs = search needs
+
+array-share-prefix-bytes : tie.Need-array-share-prefix-bytes
+array-share-prefix-bytes c = search needs
+
+slice-aggregate-anrukfal-call-site : tie.Need-slice-aggregate-anrukfal-call-site
+slice-aggregate-anrukfal-call-site c = sym (length-take-le _ _ (c .before .before .fill .ensures))
+
+low-requires : tie.Need-low-requires
+low-requires c κs = search needs
+
+low-requires-2 : tie.Need-low-requires-2
+low-requires-2 c κs = search needs
+
+anrukfal-call-site-requires : tie.Need-anrukfal-call-site-requires
+anrukfal-call-site-requires c κs = search needs
+
+show5-requires : tie.Need-show5-requires
+show5-requires c κs = search needs
+
+returns : tie.Need-returns
+returns c = search needs
+
+pub call-site-spec : {M : Type 1} → statement M
+call-site-spec =
+    tie.close
+    (tie.spec
+    number-requires
+    number-requires-2
+    fill-requires
+    array-share-prefix-bytes
+    slice-aggregate-anrukfal-call-site
+    low-requires
+    low-requires-2
+    anrukfal-call-site-requires
+    show5-requires
+    returns)
