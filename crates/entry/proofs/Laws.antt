@@ -65,10 +65,6 @@ module _ (xs : List ℕ) (a : Addr) (k : ℕ) where
     unfolding functionAt
     function-sound h w = rw (there h) (ways.function-sound xs a k w)
 
-    pub function-corrupt : k < entries xs → 2 ^ 31 ≤ word xs (8 * k) → functionAt xs a k ≡ FunctionRead.Refused Refusal.Corrupt
-    unfolding functionAt
-    function-corrupt h w = rw (there h) (ways.function-corrupt xs a k w)
-
     pub function-gives : FunctionGives xs a k (functionAt xs a k)
     unfolding functionAt functionIn
     function-gives =

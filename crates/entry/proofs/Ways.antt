@@ -82,9 +82,9 @@ module _ (ys : List ℕ) (a : Addr) (o w : ℕ) where
   generic-short e = simp e
 
   pub generic-counted : (v : ℕ) → wordAt ys (o + 4) ≡ At v → (p t : Addr) → p ≡ addressOf a (off o) → t ≡ prel31Of w p
-      → fitting (length ys) (Personality.Generic t) (o + 4) (1 + v / 2 ^ 24) 1 ≡ genericOf ys a o w
+      → (r : TableRead) → r ≡ fitting (length ys) (Personality.Generic t) (o + 4) (1 + v / 2 ^ 24) 1 → r ≡ genericOf ys a o w
   unfolding genericOf
-  generic-counted v e p t ep et = rw (e, et, ep)
+  generic-counted v e p t ep et r h = rw (e, ← ep, ← et) h
 
   pub entry-generic : w < 2 ^ 31 → entryBy ys a o w ≡ genericOf ys a o w
   unfolding entryBy

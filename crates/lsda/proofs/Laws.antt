@@ -1,5 +1,5 @@
 -- Laws of the language data, for the crates above: the audit is exact, what a counter meets, and why an answer is refused. Assumes nothing.
-use Prim.Native.Nat.{ℕ, _≤_, _<_}
+use Prim.Native.Nat.{ℕ, _≤_}
 use mathlib.Core.Path.{_≡_, refl, sym, _∙_}
 use mathlib.Core.List.{List}
 use mathlib.Core.Bool.{Bool, true, false}
@@ -20,7 +20,7 @@ use Rattle.section.proofs.Walks.{walk-exact, more-fine, checked-stop}
 use Rattle.pointer.specs.Reads.{NoPointer}
 use Rattle.pointer.proofs.Laws.{not-section}
 use Rattle.lsda.specs.Header.{headerOf}
-use Rattle.lsda.specs.Site.{padOf, actionOf, padFits, actionFits, fitsOf, siteAt, resolved, settledOf, PadIn, ActionIn, Fits}
+use Rattle.lsda.specs.Site.{padOf, actionOf, padFits, actionFits, fitsOf, siteAt, settledOf, PadIn, ActionIn, Fits}
 use Rattle.lsda.specs.Sites.{siteLook, sitesFrom, onHeader, coversOf, findIn, findFrom, callSiteOf, auditFrom, auditSitesOf, CleanSites, Covers, First, Nowhere, Sited, Answered}
 use Rattle.lsda.specs.Reach.{faultAt}
 use Rattle.lsda.specs.Reasons.{Faulty, NoCallSite}

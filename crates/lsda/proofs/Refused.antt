@@ -1,6 +1,5 @@
 -- Why each answer is refused: put together as the definitions are, from what the readers refuse. Assumes nothing.
 use Prim.Native.Nat.{ℕ}
-use mathlib.Core.Path.{_≡_, refl}
 use mathlib.Core.List.{List}
 use mathlib.Core.Bool.{Bool, true, false}
 use lib.ListN.{length}
@@ -21,7 +20,7 @@ use Rattle.pointer.specs.declared.Read.{Read}
 use Rattle.pointer.proofs.Laws.{pointer-on, uleb-on, leb-why}
 use Rattle.lsda.specs.Header.{onRead, onByte, onBase, byteAt, baseAt, typesAt, tableAt, headerOf}
 use Rattle.lsda.specs.Site.{padOf, actionOf, padFits, actionFits, fitsOf, resolved, settledOf}
-use Rattle.lsda.specs.Sites.{sitesFrom, onHeader, coversOf, findIn, findFrom, callSiteOf, auditFrom, auditSitesOf}
+use Rattle.lsda.specs.Sites.{onHeader, coversOf, findIn, findFrom, callSiteOf, auditFrom, auditSitesOf}
 use Rattle.lsda.specs.Reasons.{Faulty, NoCallSite}
 use Rattle.lsda.specs.declared.fields.ByteRead.{ByteRead}
 use Rattle.lsda.specs.declared.fields.Based.{Based}

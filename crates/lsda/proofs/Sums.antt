@@ -1,6 +1,6 @@
 -- A call site's sums: one law for each way to the answer that a site is. Assumes nothing.
 use Prim.Native.Nat.{ℕ, _+_, _≤_, _<_}
-use mathlib.Core.Path.{_≡_, refl, ap, _∙_}
+use mathlib.Core.Path.{_≡_, refl}
 use native.Mathlib.Omega.{arith}
 use lib.Dec.{leb}
 use borrow.Author.Tests.{le-leb, lt-leb, leb-true, leb-false, eq-eqb, ne-eqb}
@@ -13,7 +13,7 @@ use Rattle.section.specs.declared.Check.{Check}
 use Rattle.section.specs.declared.Summed.{Summed}
 use Rattle.section.proofs.Picks.{by-test}
 use Rattle.section.proofs.Places.{plus-in, plus-over}
-use Rattle.lsda.specs.Site.{padOf, actionOf, padFits, actionFits, fitsOf, callSite, resolved, settledOf, landedOf}
+use Rattle.lsda.specs.Site.{fitsOf, callSite, resolved, settledOf, landedOf}
 use Rattle.lsda.specs.declared.Pad.{Pad}
 use Rattle.lsda.specs.declared.Action.{Action}
 use Rattle.lsda.specs.declared.Site.{Site}

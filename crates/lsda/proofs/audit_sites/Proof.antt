@@ -24,7 +24,10 @@ returns c = audit-told _ _ _ (rw (sym (c .before .before .before .read-header .e
 
 returns-2 : tie.Need-returns-2
 unfolding auditSitesOf
-returns-2 c = audit-told _ _ _ (rw (sym (c .before .before .before .before .read-header .ensures) ∙ c .before .before .header .given .1) (c .all-fit .ensures))
+returns-2 c =
+    let read-header = c .before .before .before .before .read-header in
+    let header = c .before .before .header in
+    audit-told _ _ _ (rw (sym (read-header .ensures) ∙ header .given .1) (c .all-fit .ensures))
 
 pub audit-sites-spec : {M : Type 1} → statement M
 audit-sites-spec =

@@ -33,15 +33,31 @@ table-at-requires c κs = search needs
 
 returns-2 : tie.Need-returns-2
 unfolding headerOf
-returns-2 c = rw (le-leb _ _ (c .before .before .before .before .if1 .left), sym (c .before .before .before .base-at .ensures) ∙ c .before .r .given .1)
+returns-2 c =
+    let if1 = c .before .before .before .before .if1 in
+    let base-at = c .before .before .before .base-at in
+    let r = c .before .r in
+    rw (le-leb _ _ (if1 .left), sym (base-at .ensures) ∙ r .given .1)
 
 returns-3 : tie.Need-returns-3
 unfolding headerOf
-returns-3 c = rw (le-leb _ _ (c .before .before .before .before .before .before .before .before .if1 .left), sym (c .before .before .before .before .before .before .before .base-at .ensures) ∙ c .before .before .before .before .before .base .given .1, sym (c .before .before .before .types-at .ensures) ∙ c .before .r2 .given .1)
+returns-3 c =
+    let if1 = c .before .before .before .before .before .before .before .before .if1 in
+    let base-at = c .before .before .before .before .before .before .before .base-at in
+    let base = c .before .before .before .before .before .base in
+    let types-at = c .before .before .before .types-at in
+    let r2 = c .before .r2 in
+    rw (le-leb _ _ (if1 .left), sym (base-at .ensures) ∙ base .given .1, sym (types-at .ensures) ∙ r2 .given .1)
 
 returns-4 : tie.Need-returns-4
 unfolding headerOf
-returns-4 c = rw (le-leb _ _ (c .before .before .before .before .before .before .before .before .before .if1 .left), sym (c .before .before .before .before .before .before .before .before .base-at .ensures) ∙ c .before .before .before .before .before .before .base .given .1, sym (c .before .before .before .before .types-at .ensures) ∙ c .before .before .sites .given .1) (c .table-at .ensures)
+returns-4 c =
+    let if1 = c .before .before .before .before .before .before .before .before .before .if1 in
+    let base-at = c .before .before .before .before .before .before .before .before .base-at in
+    let base = c .before .before .before .before .before .before .base in
+    let types-at = c .before .before .before .before .types-at in
+    let sites = c .before .before .sites in
+    rw (le-leb _ _ (if1 .left), sym (base-at .ensures) ∙ base .given .1, sym (types-at .ensures) ∙ sites .given .1) (c .table-at .ensures)
 
 pub read-header-spec : {M : Type 1} → statement M
 read-header-spec =

@@ -35,7 +35,7 @@ returns c = sym (generic-short _ _ _ _ (sym (c .before .before .word-at .ensures
 returns-2 : tie.Need-returns-2
 returns-2 c =
     let v = c .before .before .before .before in
-    c .fit .ensures ∙ generic-counted _ _ _ _ _ (sym (v .before .before .word-at .ensures) ∙ v .v .given .1) _ _ (c .before .before .address-of .ensures) (c .before .prel31 .ensures)
+    generic-counted _ _ _ _ _ (sym (v .before .before .word-at .ensures) ∙ v .v .given .1) _ _ (c .before .before .address-of .ensures) (c .before .prel31 .ensures) _ (c .fit .ensures)
 
 pub generic-spec : {M : Type 1} → statement M
 generic-spec =

@@ -34,11 +34,23 @@ returns-2 c = rw (sym (c .before .before .before .byte-at .ensures) ∙ c .befor
 
 returns-3 : tie.Need-returns-3
 unfolding baseAt
-returns-3 c = rw (sym (c .before .before .before .before .before .before .before .before .byte-at .ensures) ∙ c .before .before .before .before .before .before .encoding .given .1, ne-eqb _ _ (c .before .before .before .before .if1 .left), sym (c .before .before .before .pointer .ensures) ∙ c .before .r2 .given .1)
+returns-3 c =
+    let byte-at = c .before .before .before .before .before .before .before .before .byte-at in
+    let encoding = c .before .before .before .before .before .before .encoding in
+    let if1 = c .before .before .before .before .if1 in
+    let pointer = c .before .before .before .pointer in
+    let r2 = c .before .r2 in
+    rw (sym (byte-at .ensures) ∙ encoding .given .1, ne-eqb _ _ (if1 .left), sym (pointer .ensures) ∙ r2 .given .1)
 
 returns-4 : tie.Need-returns-4
 unfolding baseAt
-returns-4 c = rw (sym (c .before .before .before .before .before .before .before .before .byte-at .ensures) ∙ c .before .before .before .before .before .before .encoding .given .1, ne-eqb _ _ (c .before .before .before .before .if1 .left), sym (c .before .before .before .pointer .ensures) ∙ c .before .base .given .1)
+returns-4 c =
+    let byte-at = c .before .before .before .before .before .before .before .before .byte-at in
+    let encoding = c .before .before .before .before .before .before .encoding in
+    let if1 = c .before .before .before .before .if1 in
+    let pointer = c .before .before .before .pointer in
+    let base = c .before .base in
+    rw (sym (byte-at .ensures) ∙ encoding .given .1, ne-eqb _ _ (if1 .left), sym (pointer .ensures) ∙ base .given .1)
 
 pub base-at-spec : {M : Type 1} → statement M
 base-at-spec =

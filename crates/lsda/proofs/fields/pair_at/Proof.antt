@@ -29,11 +29,21 @@ returns c = rw (sym (c .before .before .before .pointer .ensures) ∙ c .before 
 
 returns-2 : tie.Need-returns-2
 unfolding pairAt
-returns-2 c = rw (sym (c .before .before .before .before .before .before .before .pointer .ensures) ∙ c .before .before .before .before .before .v .given .1, sym (c .before .before .before .pointer2 .ensures) ∙ c .before .r2 .given .1)
+returns-2 c =
+    let pointer = c .before .before .before .before .before .before .before .pointer in
+    let v = c .before .before .before .before .before .v in
+    let pointer2 = c .before .before .before .pointer2 in
+    let r2 = c .before .r2 in
+    rw (sym (pointer .ensures) ∙ v .given .1, sym (pointer2 .ensures) ∙ r2 .given .1)
 
 returns-3 : tie.Need-returns-3
 unfolding pairAt
-returns-3 c = rw (sym (c .before .before .before .before .before .before .before .pointer .ensures) ∙ c .before .before .before .before .before .v .given .1, sym (c .before .before .before .pointer2 .ensures) ∙ c .before .w .given .1)
+returns-3 c =
+    let pointer = c .before .before .before .before .before .before .before .pointer in
+    let v = c .before .before .before .before .before .v in
+    let pointer2 = c .before .before .before .pointer2 in
+    let w = c .before .w in
+    rw (sym (pointer .ensures) ∙ v .given .1, sym (pointer2 .ensures) ∙ w .given .1)
 
 pub pair-at-spec : {M : Type 1} → statement M
 pair-at-spec =

@@ -38,11 +38,21 @@ returns c = rw (sym (c .before .before .before .byte-at .ensures) ∙ c .before 
 
 returns-2 : tie.Need-returns-2
 unfolding tableAt
-returns-2 c = rw (sym (c .before .before .before .before .before .before .before .byte-at .ensures) ∙ c .before .before .before .before .before .encoding .given .1, sym (c .before .before .before .uleb .ensures) ∙ c .before .r2 .given .1)
+returns-2 c =
+    let byte-at = c .before .before .before .before .before .before .before .byte-at in
+    let encoding = c .before .before .before .before .before .encoding in
+    let uleb = c .before .before .before .uleb in
+    let r2 = c .before .r2 in
+    rw (sym (byte-at .ensures) ∙ encoding .given .1, sym (uleb .ensures) ∙ r2 .given .1)
 
 returns-3 : tie.Need-returns-3
 unfolding tableAt
-returns-3 c = rw (sym (c .before .before .before .before .before .before .before .before .byte-at .ensures) ∙ c .before .before .before .before .before .before .encoding .given .1, sym (c .before .before .before .before .uleb .ensures) ∙ c .before .before .length .given .1)
+returns-3 c =
+    let byte-at = c .before .before .before .before .before .before .before .before .byte-at in
+    let encoding = c .before .before .before .before .before .before .encoding in
+    let uleb = c .before .before .before .before .uleb in
+    let length = c .before .before .length in
+    rw (sym (byte-at .ensures) ∙ encoding .given .1, sym (uleb .ensures) ∙ length .given .1)
 
 pub table-at-spec : {M : Type 1} → statement M
 table-at-spec =

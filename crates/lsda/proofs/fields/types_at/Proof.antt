@@ -28,7 +28,11 @@ returns-2 c = rw (sym (c .before .before .before .before .byte-at .ensures) ∙ 
 
 returns-3 : tie.Need-returns-3
 unfolding typesAt
-returns-3 c = rw (sym (c .before .before .before .before .before .byte-at .ensures) ∙ c .before .before .before .encoding .given .1, ne-eqb _ _ (c .before .if1 .left)) (c .uleb .ensures)
+returns-3 c =
+    let byte-at = c .before .before .before .before .before .byte-at in
+    let encoding = c .before .before .before .encoding in
+    let if1 = c .before .if1 in
+    rw (sym (byte-at .ensures) ∙ encoding .given .1, ne-eqb _ _ (if1 .left)) (c .uleb .ensures)
 
 pub types-at-spec : {M : Type 1} → statement M
 types-at-spec =

@@ -44,19 +44,40 @@ enum-told-2 : tie.Need-enum-told-2 Inv-loop μ-loop
 enum-told-2 c = search needs
 
 loop-less : tie.Need-loop-less Inv-loop μ-loop
-loop-less c = let k = site-inside _ _ _ _ _ (sym (c .before .before .before .before .before .before .site-at .ensures) ∙ c .before .before .before .before .site .given .1) in omega arith
+loop-less c =
+    let site-at = c .before .before .before .before .before .before .site-at in
+    let site = c .before .before .before .before .site in
+    let k = site-inside _ _ _ _ _ (sym (site-at .ensures) ∙ site .given .1) in omega arith
 
 loop-again : tie.Need-loop-again Inv-loop μ-loop
-loop-again c = c .before .before .before .before .before .before .before .loop .inv ∙ ap (checked (fitsOf _)) (sites-more _ _ _ _ _ (sym (c .before .before .before .before .before .before .site-at .ensures) ∙ c .before .before .before .before .site .given .1)) ∙ checked-more (fitsOf _) _ _ ∙ rw (settled-fits _ _ _ (sym (c .before .before .settled .ensures) ∙ c .enum-told2 .given .1))
+loop-again c =
+    let loop = c .before .before .before .before .before .before .before .loop in
+    let site-at = c .before .before .before .before .before .before .site-at in
+    let site = c .before .before .before .before .site in
+    let settled = c .before .before .settled in
+    loop .inv ∙ ap (checked (fitsOf _)) (sites-more _ _ _ _ _ (sym (site-at .ensures) ∙ site .given .1)) ∙ checked-more (fitsOf _) _ _ ∙ rw (settled-fits _ _ _ (sym (settled .ensures) ∙ c .enum-told2 .given .1))
 
 returns : tie.Need-returns Inv-loop μ-loop
-returns c = sym (c .before .before .before .loop .inv ∙ ap (checked (fitsOf _)) (sites-done _ _ _ (sym (c .before .before .site-at .ensures) ∙ c .enum-told .given .1)) ∙ checked-end (fitsOf _))
+returns c =
+    let loop = c .before .before .before .loop in
+    let site-at = c .before .before .site-at in
+    sym (loop .inv ∙ ap (checked (fitsOf _)) (sites-done _ _ _ (sym (site-at .ensures) ∙ c .enum-told .given .1)) ∙ checked-end (fitsOf _))
 
 returns-2 : tie.Need-returns-2 Inv-loop μ-loop
-returns-2 c = sym (c .before .before .before .before .loop .inv ∙ ap (checked (fitsOf _)) (sites-refused _ _ _ _ (sym (c .before .before .before .site-at .ensures) ∙ c .before .r .given .1)) ∙ checked-stop (fitsOf _) _)
+returns-2 c =
+    let loop = c .before .before .before .before .loop in
+    let site-at = c .before .before .before .site-at in
+    let r = c .before .r in
+    sym (loop .inv ∙ ap (checked (fitsOf _)) (sites-refused _ _ _ _ (sym (site-at .ensures) ∙ r .given .1)) ∙ checked-stop (fitsOf _) _)
 
 returns-3 : tie.Need-returns-3 Inv-loop μ-loop
-returns-3 c = sym (c .before .before .before .before .before .before .before .before .loop .inv ∙ ap (checked (fitsOf _)) (sites-more _ _ _ _ _ (sym (c .before .before .before .before .before .before .before .site-at .ensures) ∙ c .before .before .before .before .before .site .given .1)) ∙ checked-more (fitsOf _) _ _ ∙ rw (settled-fault _ _ _ (sym (c .before .before .before .settled .ensures) ∙ c .before .r2 .given .1)))
+returns-3 c =
+    let loop = c .before .before .before .before .before .before .before .before .loop in
+    let site-at = c .before .before .before .before .before .before .before .site-at in
+    let site = c .before .before .before .before .before .site in
+    let settled = c .before .before .before .settled in
+    let r2 = c .before .r2 in
+    sym (loop .inv ∙ ap (checked (fitsOf _)) (sites-more _ _ _ _ _ (sym (site-at .ensures) ∙ site .given .1)) ∙ checked-more (fitsOf _) _ _ ∙ rw (settled-fault _ _ _ (sym (settled .ensures) ∙ r2 .given .1)))
 
 pub all-fit-spec : {M : Type 1} → statement M
 all-fit-spec =

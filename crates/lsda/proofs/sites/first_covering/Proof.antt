@@ -37,19 +37,40 @@ settled-requires : tie.Need-settled-requires Inv-loop μ-loop
 settled-requires c κs = search needs
 
 loop-less : tie.Need-loop-less Inv-loop μ-loop
-loop-less c = let k = site-inside _ _ _ _ _ (sym (c .before .before .before .before .before .site-at .ensures) ∙ c .before .before .before .site .given .1) in omega arith
+loop-less c =
+    let site-at = c .before .before .before .before .before .site-at in
+    let site = c .before .before .before .site in
+    let k = site-inside _ _ _ _ _ (sym (site-at .ensures) ∙ site .given .1) in omega arith
 
 loop-again : tie.Need-loop-again Inv-loop μ-loop
-loop-again c = c .before .before .before .before .before .before .loop .inv ∙ ap (findIn _ _) (sites-more _ _ _ _ _ (sym (c .before .before .before .before .before .site-at .ensures) ∙ c .before .before .before .site .given .1)) ∙ find-past _ _ _ _ (sym (c .before .covers .ensures) ∙ c .if1 .left)
+loop-again c =
+    let loop = c .before .before .before .before .before .before .loop in
+    let site-at = c .before .before .before .before .before .site-at in
+    let site = c .before .before .before .site in
+    let covers = c .before .covers in
+    loop .inv ∙ ap (findIn _ _) (sites-more _ _ _ _ _ (sym (site-at .ensures) ∙ site .given .1)) ∙ find-past _ _ _ _ (sym (covers .ensures) ∙ c .if1 .left)
 
 returns : tie.Need-returns Inv-loop μ-loop
-returns c = sym (c .before .before .before .loop .inv ∙ ap (findIn _ _) (sites-done _ _ _ (sym (c .before .before .site-at .ensures) ∙ c .enum-told .given .1)) ∙ find-end _ _)
+returns c =
+    let loop = c .before .before .before .loop in
+    let site-at = c .before .before .site-at in
+    sym (loop .inv ∙ ap (findIn _ _) (sites-done _ _ _ (sym (site-at .ensures) ∙ c .enum-told .given .1)) ∙ find-end _ _)
 
 returns-2 : tie.Need-returns-2 Inv-loop μ-loop
-returns-2 c = sym (c .before .before .before .before .loop .inv ∙ ap (findIn _ _) (sites-refused _ _ _ _ (sym (c .before .before .before .site-at .ensures) ∙ c .before .r .given .1)) ∙ find-stop _ _ _)
+returns-2 c =
+    let loop = c .before .before .before .before .loop in
+    let site-at = c .before .before .before .site-at in
+    let r = c .before .r in
+    sym (loop .inv ∙ ap (findIn _ _) (sites-refused _ _ _ _ (sym (site-at .ensures) ∙ r .given .1)) ∙ find-stop _ _ _)
 
 returns-3 : tie.Need-returns-3 Inv-loop μ-loop
-returns-3 c = c .settled .ensures ∙ sym (c .before .before .before .before .before .before .before .loop .inv ∙ ap (findIn _ _) (sites-more _ _ _ _ _ (sym (c .before .before .before .before .before .before .site-at .ensures) ∙ c .before .before .before .before .site .given .1)) ∙ find-here _ _ _ _ (sym (c .before .before .covers .ensures) ∙ c .before .if1 .taken))
+returns-3 c =
+    let loop = c .before .before .before .before .before .before .before .loop in
+    let site-at = c .before .before .before .before .before .before .site-at in
+    let site = c .before .before .before .before .site in
+    let covers = c .before .before .covers in
+    let if1 = c .before .if1 in
+    c .settled .ensures ∙ sym (loop .inv ∙ ap (findIn _ _) (sites-more _ _ _ _ _ (sym (site-at .ensures) ∙ site .given .1)) ∙ find-here _ _ _ _ (sym (covers .ensures) ∙ if1 .taken))
 
 pub first-covering-spec : {M : Type 1} → statement M
 first-covering-spec =

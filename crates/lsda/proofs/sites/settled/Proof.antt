@@ -25,7 +25,11 @@ enum-told : tie.Need-enum-told
 enum-told c = search needs
 
 returns-2 : tie.Need-returns-2
-returns-2 c = c .landed2 .ensures ∙ sym (settled-at _ _ _ (c .before .before .before .before .before .if1 .left) (sym (c .before .before .before .before .plus .ensures) ∙ c .before .before .a .given .1))
+returns-2 c =
+    let if1 = c .before .before .before .before .before .if1 in
+    let plus = c .before .before .before .before .plus in
+    let a = c .before .before .a in
+    c .landed2 .ensures ∙ sym (settled-at _ _ _ (if1 .left) (sym (plus .ensures) ∙ a .given .1))
 
 returns-3 : tie.Need-returns-3
 returns-3 c = sym (settled-over _ _ (c .before .before .before .if1 .left) (sym (c .before .before .plus .ensures) ∙ c .enum-told .given .1))

@@ -29,11 +29,20 @@ returns c = rw (sym (c .before .before .plus .ensures) ∙ c .enum-told .given .
 
 returns-2 : tie.Need-returns-2
 unfolding summedOf
-returns-2 c = rw (sym (c .before .before .before .before .before .before .plus .ensures) ∙ c .before .before .before .before .from .given .1, sym (c .before .before .plus2 .ensures) ∙ c .enum-told2 .given .1)
+returns-2 c =
+    let plus = c .before .before .before .before .before .before .plus in
+    let from = c .before .before .before .before .from in
+    let plus2 = c .before .before .plus2 in
+    rw (sym (plus .ensures) ∙ from .given .1, sym (plus2 .ensures) ∙ c .enum-told2 .given .1)
 
 returns-3 : tie.Need-returns-3
 unfolding summedOf
-returns-3 c = rw (sym (c .before .before .before .before .before .before .before .plus .ensures) ∙ c .before .before .before .before .before .from .given .1, sym (c .before .before .before .plus2 .ensures) ∙ c .before .to .given .1)
+returns-3 c =
+    let plus = c .before .before .before .before .before .before .before .plus in
+    let from = c .before .before .before .before .before .from in
+    let plus2 = c .before .before .before .plus2 in
+    let to = c .before .to in
+    rw (sym (plus .ensures) ∙ from .given .1, sym (plus2 .ensures) ∙ to .given .1)
 
 pub summed-spec : {M : Type 1} → statement M
 summed-spec =

@@ -1,11 +1,10 @@
 -- `pointer::fixed::read` is right at every width from 1 to 8: `value` is the number of the k digits passed, and `scale` is one digit behind. Assumes nothing.
-use Prim.Native.Nat.{ℕ, suc, _+_, _*_, _-_, _%_, _^_, _<_, _≤_}
-use mathlib.Core.Path.{_≡_, refl, sym, ap, _∙_}
+use Prim.Native.Nat.{_+_, _*_, _-_, _^_, _<_, _≤_}
+use mathlib.Core.Path.{_≡_, refl, sym, _∙_}
 use native.Mathlib.Omega.{arith}
 use native.Mathlib.Nat.{add-zero, pow-le-pow-right}
 use borrow.Author.Needs.{needs}
 use lib.Dec.{lit<}
-use lib.ListN.{length, getD}
 use denote.Ref.{now}
 use Rattle.section.specs.Digits.{bytesAt, digits}
 use Rattle.section.proofs.Digits.{Grown, grow}

@@ -1,11 +1,11 @@
 -- `pointer::leb::read` is right: as long as the loop goes on, `value` and `scale` are those of the k digits passed, and where the LEB ends is still
 -- to be seen in the 5 - k bytes after them. Assumes nothing.
-use Prim.Native.Nat.{ℕ, suc, _+_, _*_, _-_, _%_, _^_, _<_, _≤_}
+use Prim.Native.Nat.{ℕ, _+_, _-_, _%_, _^_, _<_, _≤_}
 use mathlib.Core.Path.{_≡_, refl, sym, ap, _∙_}
 use native.Mathlib.Omega.{arith}
 use borrow.Author.Needs.{needs}
 use lib.Dec.{lit<}
-use lib.ListN.{length, getD}
+use lib.ListN.{length}
 use denote.Ref.{now}
 use Rattle.section.proofs.Digits.{Grown, grow}
 use Rattle.section.proofs.Ends.{at-first, at-long, at-early, at-last, at-more}
