@@ -12,14 +12,21 @@ ghost use Rattle.entry.specs.Index.{indexEntryOf};
 ghost use Rattle.entry.specs.Table.{tableEntryOf};
 ghost use Rattle.lsda.specs.Answers.{siteAnswer};
 ghost use Rattle.lsda.specs.Sites.{callSiteOf};
+ghost use Rattle.image.specs.Image.{image};
+ghost use Rattle.search.specs.Answers.{searchAnswer};
+ghost use Rattle.search.specs.Search.{searchOf};
+ghost use Rattle.lookup.specs.Answers.{lookedAnswer};
+ghost use Rattle.lookup.specs.Lookup.{lookupOf};
 ghost use Rattle.bundle.specs.Answers.{bundleAnswer};
 ghost use Rattle.bundle.specs.Bundle.{bundleOf};
 use bundle::BundleRead;
 use entry::IndexRead;
 use entry::TableRead;
 use instruction::Decoded;
+use lookup::Looked;
 use lsda::SiteFound;
 use pointer::Read;
+use search::Searched;
 use section::Addr;
 use section::Off;
 
@@ -134,6 +141,66 @@ pub extern "C" fn anrukfal_call_site(
         }
         SiteFound::Refused(r) => {
             *row = [0; 5];
+            r.number()
+        }
+    }
+}
+
+// Entry, function words read.
+#[no_mangle]
+pub extern "C" fn anrukfal_search(
+    index: &[u8],
+    index_address: u32,
+    counter: u32,
+    row: &mut [u32; 2],
+) -> u32
+    ensures { λ r. ⌜ Told (searchAnswer (searchOf (now (index .entry)) (addr «index_address») (addr counter))) r (now (row .exit)) ⌝ }
+{
+    match search::search(index, Addr(index_address), Addr(counter)) {
+        Searched::Found(hit) => {
+            *row = [hit.entry, hit.probes];
+            0
+        }
+        Searched::Refused(r) => {
+            *row = [0; 2];
+            r.number()
+        }
+    }
+}
+
+// Entry, function, kind, selector or personality address, start, end, pad, has action, action.
+#[no_mangle]
+pub extern "C" fn anrukfal_lookup(
+    index: &[u8],
+    index_address: u32,
+    table: &[u8],
+    table_address: u32,
+    counter: u32,
+    row: &mut [u32; 9],
+) -> u32
+    ensures { λ r. ⌜ Told (lookedAnswer (lookupOf (image (now (index .entry)) (addr «index_address») (now (table .entry)) (addr «table_address»)) (addr counter))) r (now (row .exit)) ⌝ }
+{
+    match lookup::lookup(
+        index,
+        Addr(index_address),
+        table,
+        Addr(table_address),
+        Addr(counter),
+    ) {
+        Looked::CannotUnwind(k, f) => {
+            *row = [k, f.0, 0, 0, 0, 0, 0, 0, 0];
+            0
+        }
+        Looked::Compact(k, f, held, selector) => {
+            *row = [k, f.0, rows::compact_kind(held), selector as u32, 0, 0, 0, 0, 0];
+            0
+        }
+        Looked::Generic(k, f, personality, site) => {
+            *row = rows::generic_row(k, f, personality, site);
+            0
+        }
+        Looked::Refused(r) => {
+            *row = [0; 9];
             r.number()
         }
     }

@@ -2,9 +2,11 @@
 ghost use mathlib.Core.Path.{_≡_};
 ghost use mathlib.Core.List.{_∷_};
 ghost use Rattle.entry.specs.Answers.{personalityValue, contentRow, tableKind, tableRow};
+ghost use Rattle.entry.specs.Parts.{chosen};
 ghost use Rattle.instruction.specs.Answers.{instructionRow};
 ghost use Rattle.lsda.specs.Answers.{padNumber, hasAction, actionNumber, siteRow};
 use entry::Content;
+use entry::Held;
 use entry::Personality;
 use entry::TableEntry;
 use instruction::Instruction;
@@ -118,6 +120,40 @@ pub(crate) fn site_row(site: CallSite) -> [u32; 5]
     let pad = site.pad;
     let action = site.action;
     [
+        site.start.0,
+        site.end.0,
+        pad_number(pad),
+        has_action(action),
+        action_number(action),
+    ]
+}
+
+// 1 in the index, 2 in the table.
+pub(crate) fn compact_kind(held: Held) -> u32
+    ensures { λ r. ⌜ r ≡ chosen held 1 2 ⌝ }
+{
+    match held {
+        Held::Index => 1,
+        Held::Table => 2,
+    }
+}
+
+// Entry, function, kind, personality address, and the call site's row.
+pub(crate) fn generic_row(
+    entry: u32,
+    function: Addr,
+    personality: Addr,
+    site: CallSite,
+) -> [u32; 9]
+    ensures { λ r. ⌜ r ≡ entry ∷ function .0 ∷ 3 ∷ personality .0 ∷ siteRow site ⌝ }
+{
+    let pad = site.pad;
+    let action = site.action;
+    [
+        entry,
+        function.0,
+        3,
+        personality.0,
         site.start.0,
         site.end.0,
         pad_number(pad),

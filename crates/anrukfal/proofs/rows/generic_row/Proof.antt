@@ -1,0 +1,25 @@
+-- Pad and action have the numbers of the site's row. Assumes nothing.
+use borrow.Author.Needs.{needs}
+use Rattle.anrukfal.proofs.rows.generic_row.Statement.{statement}
+use Rattle.anrukfal.proofs.rows.generic_row.Tie as tie
+use Rattle.anrukfal.proofs.rows.generic_row.Reads as reads
+use Rattle.anrukfal.proofs.rows.generic_row.Lts as lts
+use Rattle.anrukfal.proofs.rows.action_number.Reads as action-number-reads
+use Rattle.anrukfal.proofs.rows.has_action.Reads as has-action-reads
+use Rattle.anrukfal.proofs.rows.pad_number.Reads as pad-number-reads
+
+pad-number-requires : tie.Need-pad-number-requires
+pad-number-requires c κs = search needs
+
+has-action-requires : tie.Need-has-action-requires
+has-action-requires c κs = search needs
+
+action-number-requires : tie.Need-action-number-requires
+action-number-requires c κs = search needs
+
+returns : tie.Need-returns
+returns c = rw (c .action-number .ensures, c .before .has-action .ensures, c .before .before .pad-number .ensures)
+
+pub generic-row-spec : {M : Type 1} → statement M
+generic-row-spec =
+    tie.close (tie.spec pad-number-requires has-action-requires action-number-requires returns)
