@@ -49,14 +49,7 @@ pub(crate) fn index_row(function: Addr, content: Content) -> [u32; 6]
 {
     match content {
         Content::CannotUnwind => [function.0, 0, 0, 0, 0, 0],
-        Content::Compact(p, s) => [
-            function.0,
-            1,
-            personality_value(p),
-            s.at.0,
-            s.words,
-            s.skip,
-        ],
+        Content::Compact(p, s) => [function.0, 1, personality_value(p), s.at.0, s.words, s.skip],
         Content::Table(a) => [function.0, 4, a.0, 0, 0, 0],
     }
 }
@@ -139,12 +132,7 @@ pub(crate) fn compact_kind(held: Held) -> u32
 }
 
 // Entry, function, kind, personality address, and the call site's row.
-pub(crate) fn generic_row(
-    entry: u32,
-    function: Addr,
-    personality: Addr,
-    site: CallSite,
-) -> [u32; 9]
+pub(crate) fn generic_row(entry: u32, function: Addr, personality: Addr, site: CallSite) -> [u32; 9]
     ensures { λ r. ⌜ r ≡ entry ∷ function .0 ∷ 3 ∷ personality .0 ∷ siteRow site ⌝ }
 {
     let pad = site.pad;

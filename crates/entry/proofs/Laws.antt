@@ -42,7 +42,7 @@ pub numbered-exact : (len : ℕ) (a : Addr) (k : ℕ) → (numbered len a k ≡ 
 unfolding numbered
 numbered-exact len a k = and-exact _ _ (index-exact len a) (need-lt k (len / 8) Refusal.Truncated)
 
-pub numbered-past : (len : ℕ) (a : Addr) (k : ℕ) → IndexSection len a → len / 8 ≤ k → numbered len a k ≡ Fault Refusal.Truncated
+numbered-past : (len : ℕ) (a : Addr) (k : ℕ) → IndexSection len a → len / 8 ≤ k → numbered len a k ≡ Fault Refusal.Truncated
 unfolding numbered
 numbered-past len a k s h = rw (index-exact len a .1 s, le-ltb _ _ h)
 
@@ -73,7 +73,7 @@ module _ (xs : List ℕ) (a : Addr) (k : ℕ) where
         rw (there h) (pick-both (FunctionGives xs a k) (ltb (word xs (8 * k)) (2 ^ 31)) _ _ (FunctionGives.at h function-address) (FunctionGives.corrupt h)))
         (λ t. let h = ltb-false k (entries xs) t in rw (numbered-past (length xs) a k s h) (FunctionGives.truncated h))
 
-    -- 8 k + 8 ≤ length
+    -- what a content word of an entry that is there says: its own word lies in the index
     contents : k < entries xs → (w : ℕ) → Contents (length xs) (contentOf w a (off (8 * k + 4)))
     unfolding contentOf
     contents h w =

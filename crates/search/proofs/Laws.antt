@@ -1,7 +1,7 @@
 -- What the search answers: on any index an entry that begins at or below the counter, with at most 14 function words read; and on an index whose
 -- functions rise, the one entry whose stretch holds the counter, or that there is none. Assumes nothing.
 use Prim.Native.Nat.{ℕ, zero, suc, _+_, _-_, _*_, _/_, _^_, _≤_, _<_}
-use mathlib.Core.Path.{_≡_, refl, ap, _∙_}
+use mathlib.Core.Path.{_≡_, refl, sym, ap, _∙_}
 use mathlib.Core.List.{List}
 use mathlib.Core.Bool.{Bool, true, false}
 use native.Mathlib.Omega.{arith}
@@ -20,6 +20,8 @@ use Rattle.section.proofs.Rules.{index-exact}
 use Rattle.entry.specs.Index.{entries, functionOf, functionAt, onFunction}
 use Rattle.entry.specs.declared.FunctionRead.{FunctionRead}
 use Rattle.entry.proofs.Laws.{function-sound}
+use Rattle.image.specs.Image.{Image, entryAt, ledBy}
+use Rattle.image.proofs.Laws.{entry-is-led}
 use Rattle.search.specs.Search.{hit, side, halveFrom, halve, searchOf}
 use Rattle.search.specs.Rising.{Begins, Rising, Covers, Located, Answers}
 use Rattle.search.specs.declared.Hit.{Hit}
@@ -103,6 +105,10 @@ module _ (xs : List ℕ) (a counter : Addr) where
   found-begins h e =
       let w : Within 0 (entries xs) 14 (Searched.Found h) = rw e at within in
       record { inside = w .1; read = w .3 .0; below = w .3 .1; few = w .2 }
+
+-- an entry that is found leads on by the function that was read on the way
+pub found-led : (i : Image) (counter : Addr) (h : Hit) → searchOf (i .index) (i .indexAt) counter ≡ Searched.Found h → ledBy i (h .entry) (h .function) ≡ entryAt i (h .entry)
+found-led i counter h e = sym (entry-is-led i (h .entry) (h .function) (found-begins (i .index) (i .indexAt) counter h e .read))
 
 -- ---- on rising functions
 module _ (xs : List ℕ) (a counter : Addr) (up : Rising xs a) where

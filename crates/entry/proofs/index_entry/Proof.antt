@@ -1,7 +1,10 @@
 -- Both words are read where the section and the number pass, so each part of the definition has what the code has. Assumes nothing.
 use native.Mathlib.Omega.{arith}
-use mathlib.Core.Path.{sym, _∙_}
-use Rattle.entry.specs.Index.{functionAt, contentAt, indexEntryOf}
+use mathlib.Core.Path.{_≡_, sym, _∙_}
+use lib.ListN.{length}
+use denote.Ref.{now}
+use Rattle.section.specs.declared.Check.{Check}
+use Rattle.entry.specs.Index.{numbered, functionAt, contentAt, indexEntryOf}
 use Rattle.entry.proofs.Laws.{numbered-there}
 use borrow.Author.Needs.{needs}
 use Rattle.entry.proofs.index_entry.Statement.{statement}
@@ -16,8 +19,12 @@ enum-known-r c = search needs
 enum-told : tie.Need-enum-told
 enum-told c = search needs
 
+-- the section and the number passed
+passed : (c : tie.After-enum-told) → numbered (length (now (c .before .before .before .before .args .index))) (c .before .before .before .before .args .index-address) (c .before .before .before .before .args .number) ≡ Check.Fine
+passed c = sym (c .before .before .numbered .ensures) ∙ c .enum-told .given .1
+
 function-of-requires : tie.Need-function-of-requires
-function-of-requires c κs = numbered-there _ _ _ (sym (c .before .before .numbered .ensures) ∙ c .enum-told .given .1)
+function-of-requires c κs = numbered-there _ _ _ (passed c)
 
 enum-known-r-2 : tie.Need-enum-known-r-2
 enum-known-r-2 c = search needs
@@ -26,9 +33,7 @@ enum-known-function : tie.Need-enum-known-function
 enum-known-function c = search needs
 
 content-of-requires : tie.Need-content-of-requires
-content-of-requires c κs = let n = c .before .before .before .before in
-    let h = numbered-there _ _ _ (sym (n .before .before .numbered .ensures) ∙ n .enum-told .given .1) in
-    (h .0, omega arith)
+content-of-requires c κs = let h = numbered-there _ _ _ (passed (c .before .before .before .before)) in (h .0, omega arith)
 
 returns : tie.Need-returns
 unfolding indexEntryOf functionAt
@@ -36,13 +41,11 @@ returns c = rw (sym (c .before .before .before .numbered .ensures) ∙ c .before
 
 returns-2 : tie.Need-returns-2
 unfolding indexEntryOf functionAt
-returns-2 c = let n = c .before .before .before .before in
-    rw (sym (n .before .before .numbered .ensures) ∙ n .enum-told .given .1, sym (c .before .before .before .function-of .ensures) ∙ c .before .r2 .given .1)
+returns-2 c = rw (passed (c .before .before .before .before), sym (c .before .before .before .function-of .ensures) ∙ c .before .r2 .given .1)
 
 returns-3 : tie.Need-returns-3
 unfolding indexEntryOf functionAt contentAt
-returns-3 c = let n = c .before .before .before .before .before in
-    rw (sym (n .before .before .numbered .ensures) ∙ n .enum-told .given .1, sym (c .before .before .before .before .function-of .ensures) ∙ c .before .before .function .given .1, c .content-of .ensures)
+returns-3 c = rw (passed (c .before .before .before .before .before), sym (c .before .before .before .before .function-of .ensures) ∙ c .before .before .function .given .1, c .content-of .ensures)
 
 pub index-entry-spec : {M : Type 1} → statement M
 index-entry-spec =

@@ -32,7 +32,9 @@ enum-known-r : tie.Need-enum-known-r Inv-loop μ-loop
 enum-known-r c = search needs
 
 returns : tie.Need-returns Inv-loop μ-loop
-returns c = sym (c .before .before .before .before .before .loop .inv .3 ∙ halve-refused _ _ _ _ _ _ _ (omega arith) _ (sym (c .before .before .before .function-at .ensures) ∙ c .before .r .given .1))
+returns c =
+    let f = c .before .before .before in
+    sym (f .before .before .loop .inv .3 ∙ halve-refused _ _ _ _ _ _ _ (omega arith) _ (sym (f .function-at .ensures) ∙ c .before .r .given .1))
 
 enum-known-f : tie.Need-enum-known-f Inv-loop μ-loop
 enum-known-f c = search needs
@@ -44,13 +46,19 @@ loop-less : tie.Need-loop-less Inv-loop μ-loop
 loop-less c = search needs
 
 loop-again : tie.Need-loop-again Inv-loop μ-loop
-loop-again c = (omega arith, omega arith, omega arith, c .before .before .before .before .before .before .before .before .loop .inv .3 ∙ halve-up _ _ _ _ _ _ _ (omega arith) _ (sym (c .before .before .before .before .before .before .function-at .ensures) ∙ c .before .before .before .before .f .given .1) (omega arith))
+loop-again c =
+    let v = c .before .before .before .before in
+    let f = v .before .before in
+    (omega arith, omega arith, omega arith, f .before .before .loop .inv .3 ∙ halve-up _ _ _ _ _ _ _ (omega arith) _ (sym (f .function-at .ensures) ∙ v .f .given .1) (omega arith))
 
 loop-less-2 : tie.Need-loop-less-2 Inv-loop μ-loop
 loop-less-2 c = search needs
 
 loop-again-2 : tie.Need-loop-again-2 Inv-loop μ-loop
-loop-again-2 c = (omega arith, omega arith, omega arith, c .before .before .before .before .before .before .before .before .loop .inv .3 ∙ halve-down _ _ _ _ _ _ _ (omega arith) _ (sym (c .before .before .before .before .before .before .function-at .ensures) ∙ c .before .before .before .before .f .given .1) (omega arith))
+loop-again-2 c =
+    let v = c .before .before .before .before in
+    let f = v .before .before in
+    (omega arith, omega arith, omega arith, f .before .before .loop .inv .3 ∙ halve-down _ _ _ _ _ _ _ (omega arith) _ (sym (f .function-at .ensures) ∙ v .f .given .1) (omega arith))
 
 returns-2 : tie.Need-returns-2 Inv-loop μ-loop
 returns-2 c = sym (c .before .loop .inv .3 ∙ halve-done _ _ _ _ _ _ _ (omega arith))
