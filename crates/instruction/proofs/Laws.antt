@@ -1,5 +1,5 @@
 -- Laws of the instructions: one for each way to an answer, and what is known of an instruction that was decoded. Assumes nothing.
-use Prim.Native.Nat.{ℕ, _+_, _-_, _*_, _/_, _%_, _≤_, _<_}
+use Prim.Native.Nat.{ℕ, _+_, _-_, _*_, _%_, _≤_, _<_}
 use mathlib.Core.Path.{_≡_, refl, sym, _∙_}
 use mathlib.Core.List.{List}
 use mathlib.Core.Bool.{Bool}
@@ -16,7 +16,7 @@ use Rattle.section.proofs.Picks.{pick-both}
 use Rattle.section.proofs.Checks.{no-fault}
 use Rattle.section.proofs.Ends.{end-each}
 use Rattle.instruction.specs.Bytes.{byteOf, onByte, wordsRule, Words, Inside}
-use Rattle.instruction.specs.Decode.{errorAt, withSecond, sizeOf, popMask, toSp, runMask, popRun, lowMask, bytesFrom, longOf, endedLong, popLong, vfpPop, singleOf, opcodeOf, decodeOf, Named}
+use Rattle.instruction.specs.Decode.{errorAt, withSecond, sizeOf, popMask, toSp, popRun, lowMask, bytesFrom, longOf, endedLong, popLong, vfpPop, singleOf, opcodeOf, decodeOf, Named}
 use Rattle.instruction.specs.declared.Byte.{Byte}
 use Rattle.instruction.specs.declared.Instruction.{Instruction}
 use Rattle.instruction.specs.declared.Decoded.{Decoded}

@@ -1,6 +1,6 @@
 -- Laws of an entry's instructions as a walk, and that the audit passes exactly the clean ones. Assumes nothing.
 use Prim.Native.Nat.{ℕ, zero, suc, _+_, _≤_, _<_}
-use mathlib.Core.Path.{_≡_, refl, sym, ap, _∙_}
+use mathlib.Core.Path.{_≡_, refl, ap, _∙_}
 use mathlib.Core.Bool.{Bool, true, false}
 use mathlib.Core.List.{List}
 use mathlib.Core.Logic.{_↔_}
@@ -10,7 +10,7 @@ use lib.Dec.{leb}
 use borrow.Author.Tests.{le-leb, lt-leb}
 use Rattle.section.specs.Pick.{pick}
 use Rattle.section.specs.Check.{andThen, need}
-use Rattle.section.specs.Walk.{Look, Trail, checked, Clean, Upward}
+use Rattle.section.specs.Walk.{Look, Trail, checked, Upward}
 use Rattle.section.specs.declared.Refusal.{Refusal}
 use Rattle.section.specs.declared.Check.{Check}
 use Rattle.section.specs.declared.Check.the-variants.{Fine, Fault}
@@ -152,7 +152,7 @@ regs-audited : (t : Bool) → Audited (need t Refusal.Regs)
 regs-audited true = Audited.fine
 regs-audited false = Audited.regs
 
-fault-audited : (i : Instruction) → Audited (faultOf i)
+pub fault-audited : (i : Instruction) → Audited (faultOf i)
 fault-audited (Instruction.DataPop n) = Audited.fine
 fault-audited (Instruction.DataPush n) = Audited.fine
 fault-audited (Instruction.RegPop n) = Audited.fine

@@ -78,16 +78,10 @@ pub fn audit_instructions(words: &[u8], skip: u32) -> Check
     let mut at = skip;
     loop {
         match decode(words, at) {
-            Decoded::End => {
-                return Check::Fine;
-            }
-            Decoded::Refused(r) => {
-                return Check::Fault(r);
-            }
+            Decoded::End => return Check::Fine,
+            Decoded::Refused(r) => return Check::Fault(r),
             Decoded::Step(i, next) => match audit::fault(i) {
-                Check::Fault(r) => {
-                    return Check::Fault(r);
-                }
+                Check::Fault(r) => return Check::Fault(r),
                 Check::Fine => {
                     if audit::ends(i) {
                         return Check::Fine;

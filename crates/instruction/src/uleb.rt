@@ -1,6 +1,5 @@
 // B2: a data pop whose size is a ULEB.
 ghost use mathlib.Core.Path.{_≡_};
-ghost use Prim.Native.Nat.{_≤_};
 ghost use Rattle.instruction.specs.Bytes.{Inside};
 ghost use Rattle.instruction.specs.Decode.{popLong, longOf};
 use crate::Decoded;

@@ -10,11 +10,10 @@ use Rattle.entry.specs.Parts.{languageIn}
 use Rattle.entry.specs.declared.Span.{Span}
 use Rattle.image.specs.Image.{Image, sectionsOf, entryAt, ledBy}
 use Rattle.image.specs.declared.Found.{Found}
-use Rattle.image.proofs.Laws.{entry-is-led}
 use Rattle.search.specs.Search.{searchOf}
 use Rattle.search.specs.declared.Hit.{Hit}
 use Rattle.search.specs.declared.Searched.{Searched}
-use Rattle.search.proofs.Laws.{found-begins}
+use Rattle.search.proofs.Laws.{found-led}
 use Rattle.lsda.specs.Sites.{callSiteOf}
 use Rattle.lsda.specs.declared.SiteFound.{SiteFound}
 use Rattle.lookup.specs.Lookup.{sited, lookedAt, lookupOf}
@@ -43,5 +42,4 @@ module _ (i : Image) (c : Addr) where
     -- the function that the search read leads on
     pub lookup-led : (h : Hit) → searchOf (i .index) (i .indexAt) c ≡ Searched.Found h → {x : Found} → x ≡ ledBy i (h .entry) (h .function)
         → lookupOf i c ≡ lookedAt (i .table) c (h .entry) x
-    lookup-led h e l =
-        lookup-hit h e ∙ ap (lookedAt (i .table) c (h .entry)) (entry-is-led i (h .entry) (h .function) (found-begins (i .index) (i .indexAt) c h e .read) ∙ sym l)
+    lookup-led h e l = lookup-hit h e ∙ ap (lookedAt (i .table) c (h .entry)) (sym (found-led i c h e) ∙ sym l)

@@ -3,22 +3,13 @@ use Prim.Native.Nat.{ℕ}
 use mathlib.Core.List.{List}
 use Rattle.section.specs.Check.{onCheck}
 use Rattle.section.specs.declared.Addr.{Addr}
-use Rattle.section.specs.declared.Refusal.{Refusal}
 use Rattle.entry.specs.Parts.{languageIn}
 use Rattle.image.specs.Image.{Image, sectionsOf, entryAt}
 use Rattle.image.specs.declared.Found.{Found}
-use Rattle.search.specs.Search.{searchOf}
-use Rattle.search.specs.declared.Hit.{Hit}
-use Rattle.search.specs.declared.Searched.{Searched}
+use Rattle.search.specs.Search.{searchOf, onSearched}
 use Rattle.lsda.specs.Sites.{callSiteOf}
-use Rattle.lsda.specs.declared.CallSite.{CallSite}
 use Rattle.lsda.specs.declared.SiteFound.{SiteFound}
 use Rattle.lookup.specs.declared.Looked.{Looked}
-
--- what is made of an entry that was found
-abbrev pub onSearched : {X : Type 0} → Searched → (Hit → X) → (Refusal → X) → X
-onSearched (Searched.Found h) go g = go h
-onSearched (Searched.Refused r) go g = g r
 
 -- a generic entry answers with its call site, or with why there is none
 abbrev pub sited : ℕ → Addr → Addr → SiteFound → Looked

@@ -45,3 +45,8 @@ searchOf xs a counter =
     (λ f. pick (ltb (counter .0) (f .0)) (Searched.Refused Refusal.NoEntry) (halve xs a counter 0 f (entries xs) 1))
     Searched.Refused))
     Searched.Refused
+
+-- what is made of an entry that was found
+abbrev pub onSearched : {X : Type 0} → Searched → (Hit → X) → (Refusal → X) → X
+onSearched (Searched.Found h) go g = go h
+onSearched (Searched.Refused r) go g = g r

@@ -1,6 +1,6 @@
 -- `instruction::uleb::pop_long` meets its contract. The loop's invariant: `value` and `scale` are those of the k digits passed, and where the ULEB
 -- ends is still to be seen in the 5 - k bytes after them. Assumes nothing.
-use Prim.Native.Nat.{ℕ, suc, _+_, _*_, _-_, _%_, _^_, _<_, _≤_}
+use Prim.Native.Nat.{ℕ, _+_, _-_, _%_, _^_, _<_, _≤_}
 use mathlib.Core.Path.{_≡_, refl, sym, ap, _∙_}
 use native.Mathlib.Omega.{arith}
 use lib.Dec.{lit<}

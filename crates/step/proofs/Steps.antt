@@ -1,0 +1,62 @@
+-- Laws of a step: one for each way to an answer. Assumes nothing.
+use Prim.Native.Nat.{ℕ}
+use mathlib.Core.Path.{_≡_, refl, sym, ap, _∙_}
+use mathlib.Core.List.{List}
+use lib.ListN.{length}
+use Rattle.section.specs.Rule.{stackRule}
+use Rattle.section.specs.declared.Addr.{Addr}
+use Rattle.section.specs.declared.Off.{Off}
+use Rattle.section.specs.declared.Refusal.{Refusal}
+use Rattle.section.specs.declared.Check.{Check}
+use Rattle.entry.specs.Parts.{chosen, wordsIn}
+use Rattle.entry.specs.declared.Span.{Span}
+use Rattle.image.specs.Image.{Image, sectionsOf, entryAt, ledBy}
+use Rattle.image.specs.declared.Found.{Found}
+use Rattle.search.specs.Search.{searchOf}
+use Rattle.search.specs.declared.Hit.{Hit}
+use Rattle.search.specs.declared.Searched.{Searched}
+use Rattle.search.proofs.Laws.{found-led}
+use Rattle.step.specs.Run.{runOf}
+use Rattle.step.specs.Step.{handed, refusedStep, arrived, ranBy, steppedBy, counterOf, stepOf}
+use Rattle.step.specs.declared.Registers.{Registers}
+use Rattle.step.specs.declared.Stepped.{Stepped}
+use Rattle.step.specs.declared.run.Ran.{Ran}
+
+-- the run x of a span's words, w, and the step y that it is
+module _ (xs ys st : List ℕ) (base : Addr) (given : Registers) (s : Span) {w : List ℕ} (words : w ≡ wordsIn (chosen (s .held) xs ys) s)
+    {x : Ran} (ran : x ≡ runOf w (s .skip) st base given) {y : Stepped} (told : y ≡ arrived x) where
+  ran-by : y ≡ ranBy xs ys st base given s
+  ran-by = told ∙ ap arrived (ran ∙ ap (λ (l : List ℕ). runOf l (s .skip) st base given) words)
+
+  pub stepped-compact : (f : Addr) (n : ℕ) → y ≡ steppedBy xs ys st base given (Found.Compact f n s)
+  unfolding steppedBy
+  stepped-compact f n = ran-by
+
+  pub stepped-generic : (f p : Addr) (o : Off) → y ≡ steppedBy xs ys st base given (Found.Generic f p s o)
+  unfolding steppedBy
+  stepped-generic f p o = ran-by
+
+module _ (i : Image) (st : List ℕ) (base : Addr) (given : Registers) where
+  pub step-sections : (r : Refusal) → sectionsOf i ≡ Check.Fault r → stepOf i st base given ≡ refusedStep given r
+  unfolding stepOf
+  step-sections r e = rw e
+
+  module _ (fine : sectionsOf i ≡ Check.Fine) where
+    pub step-stack : (r : Refusal) → stackRule (length st) base ≡ Check.Fault r → stepOf i st base given ≡ refusedStep given r
+    unfolding stepOf
+    step-stack r e = rw (fine, e)
+
+    module _ (lent : stackRule (length st) base ≡ Check.Fine) where
+      pub step-refused : (r : Refusal) → searchOf (i .index) (i .indexAt) (counterOf given) ≡ Searched.Refused r → stepOf i st base given ≡ refusedStep given r
+      unfolding stepOf
+      step-refused r e = rw (fine, lent, e)
+
+      pub step-hit : (h : Hit) → searchOf (i .index) (i .indexAt) (counterOf given) ≡ Searched.Found h
+          → stepOf i st base given ≡ steppedBy (i .index) (i .table) st base given (entryAt i (h .entry))
+      unfolding stepOf
+      step-hit h e = rw (fine, lent, e)
+
+      -- the function that the search read leads on
+      pub step-led : (h : Hit) → searchOf (i .index) (i .indexAt) (counterOf given) ≡ Searched.Found h → {x : Found} → x ≡ ledBy i (h .entry) (h .function)
+          → stepOf i st base given ≡ steppedBy (i .index) (i .table) st base given x
+      step-led h e l = step-hit h e ∙ ap (steppedBy (i .index) (i .table) st base given) (sym (found-led i (counterOf given) h e) ∙ sym l)

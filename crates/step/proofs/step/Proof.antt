@@ -1,0 +1,97 @@
+-- Each refusal ends the tests in their order and hands back the registers given; the function that the search read leads on to the entry. Assumes nothing.
+use Rattle.step.proofs.Steps.{step-sections, step-stack, step-refused, step-led}
+use Rattle.section.proofs.Rules.{section-exact}
+use Rattle.section.specs.Rule.{stackMost}
+use mathlib.Core.Path.{sym, _∙_}
+use borrow.Author.Needs.{needs}
+use Rattle.step.proofs.step.Statement.{statement}
+use Rattle.step.proofs.step.Tie as tie
+use Rattle.step.proofs.step.Reads as reads
+use Rattle.step.proofs.step.Lts as lts
+use Rattle.image.proofs.led_by.Reads as led-by-reads
+use Rattle.image.proofs.sections.Reads as sections-reads
+use Rattle.search.proofs.search.Reads as search-reads
+use Rattle.section.proofs.stack_rule.Reads as stack-rule-reads
+use Rattle.step.proofs.hand_back.Reads as hand-back-reads
+use Rattle.step.proofs.step_by.Reads as step-by-reads
+
+sections-requires : tie.Need-sections-requires
+sections-requires c κs = search needs
+
+enum-known-r : tie.Need-enum-known-r
+enum-known-r c = search needs
+
+hand-back-requires : tie.Need-hand-back-requires
+hand-back-requires c κs = search needs
+
+enum-told : tie.Need-enum-told
+enum-told c = search needs
+
+stack-rule-requires : tie.Need-stack-rule-requires
+stack-rule-requires c κs = search needs
+
+enum-known-r-2 : tie.Need-enum-known-r-2
+enum-known-r-2 c = search needs
+
+hand-back-requires-2 : tie.Need-hand-back-requires-2
+hand-back-requires-2 c κs = search needs
+
+enum-told-2 : tie.Need-enum-told-2
+enum-told-2 c = search needs
+
+element-copy-out-t26 : tie.Need-element-copy-out-t26
+element-copy-out-t26 c = search needs
+
+search-requires : tie.Need-search-requires
+search-requires c κs = search needs
+
+enum-known-r-3 : tie.Need-enum-known-r-3
+enum-known-r-3 c = search needs
+
+hand-back-requires-3 : tie.Need-hand-back-requires-3
+hand-back-requires-3 c κs = search needs
+
+enum-known-hit : tie.Need-enum-known-hit
+enum-known-hit c = search needs
+
+led-by-requires : tie.Need-led-by-requires
+led-by-requires c κs = search needs
+
+step-by-requires : tie.Need-step-by-requires
+step-by-requires c κs = section-exact stackMost _ _ .0 (sym (c .before .before .before .before .before .before .before .before .stack-rule .ensures) ∙ c .before .before .before .before .before .before .enum-told2 .given .1) .short
+
+returns : tie.Need-returns
+returns c = c .hand-back .ensures ∙ sym (step-sections _ _ _ _ _ (sym (c .before .before .before .before .sections .ensures) ∙ c .before .before .r .given .1))
+
+returns-2 : tie.Need-returns-2
+returns-2 c = c .hand-back2 .ensures ∙ sym (step-stack _ _ _ _ (sym (c .before .before .before .before .before .before .before .sections .ensures) ∙ c .before .before .before .before .before .enum-told .given .1) _ (sym (c .before .before .before .before .stack-rule .ensures) ∙ c .before .before .r2 .given .1))
+
+returns-3 : tie.Need-returns-3
+returns-3 c = c .hand-back3 .ensures ∙ sym (step-refused _ _ _ _ (sym (c .before .before .before .before .before .before .before .before .before .before .before .sections .ensures) ∙ c .before .before .before .before .before .before .before .before .before .enum-told .given .1) (sym (c .before .before .before .before .before .before .before .before .stack-rule .ensures) ∙ c .before .before .before .before .before .before .enum-told2 .given .1) _ (sym (c .before .before .before .before .search .ensures) ∙ c .before .before .r3 .given .1))
+
+returns-4 : tie.Need-returns-4
+returns-4 c = c .step-by .ensures ∙ sym (step-led _ _ _ _ (sym (c .before .before .before .before .before .before .before .before .before .before .before .before .sections .ensures) ∙ c .before .before .before .before .before .before .before .before .before .before .enum-told .given .1) (sym (c .before .before .before .before .before .before .before .before .before .stack-rule .ensures) ∙ c .before .before .before .before .before .before .before .enum-told2 .given .1) _ (sym (c .before .before .before .before .before .search .ensures) ∙ c .before .before .before .hit .given .1) (c .before .led-by .ensures))
+
+pub step-spec : {M : Type 1} → statement M
+step-spec =
+    tie.close
+    (tie.spec
+    sections-requires
+    enum-known-r
+    hand-back-requires
+    enum-told
+    stack-rule-requires
+    enum-known-r-2
+    hand-back-requires-2
+    enum-told-2
+    element-copy-out-t26
+    search-requires
+    enum-known-r-3
+    hand-back-requires-3
+    enum-known-hit
+    led-by-requires
+    step-by-requires
+    returns
+    returns-2
+    returns-3
+    returns-4)

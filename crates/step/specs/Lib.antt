@@ -1,0 +1,5 @@
+pub mod Stack
+pub mod Execute
+pub mod Run
+pub mod Step
+pub mod Answers
