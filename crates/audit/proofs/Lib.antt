@@ -1,1 +1,4 @@
+-- How the audit goes on, that it passes exactly the sound images, and that these keep the promise.
 pub mod Turns
+pub mod Exact
+pub mod Promise

@@ -1,1 +1,4 @@
 pub mod Audit
+pub mod Sound
+pub mod Promise
+pub mod Answers

@@ -1,10 +1,13 @@
 // The audit of a whole image.
 ghost use mathlib.Core.Path.{_≡_};
+ghost use mathlib.Core.Logic.{_↔_};
 ghost use Prim.Native.Nat.{_≤_, _<_};
 ghost use lib.ListN.{length};
 ghost use Rattle.section.specs.Rule.{indexMost};
 ghost use Rattle.image.specs.Image.{image, countOf};
 ghost use Rattle.audit.specs.Audit.{foundCheck, ledCheck, entryCheck, firstFault, auditOf};
+ghost use Rattle.audit.specs.Promise.{Promise};
+ghost use Rattle.audit.specs.Sound.{Sound};
 use entry::FunctionRead;
 use image::Found;
 use section::Addr;
@@ -94,7 +97,7 @@ fn entries<'a>(
     Verdict::Passed
 }
 
-// Sections, then every entry in order: the first fault.
+// Sections, then every entry in order: the first fault. It passes exactly the sound images, and these keep the promise.
 pub fn audit<'a>(
     index: &'a [u8],
     index_address: Addr,
@@ -102,6 +105,8 @@ pub fn audit<'a>(
     table_address: Addr,
 ) -> Verdict
     ensures answer { λ r. ⌜ r ≡ auditOf (image (now (index .entry)) «index_address» (now (table .entry)) «table_address») ⌝ }
+    ensures passes_exactly { λ r. ⌜ (r ≡ Verdict.Passed) ↔ Sound (image (now (index .entry)) «index_address» (now (table .entry)) «table_address») ⌝ }
+    ensures demand_three { λ r. ⌜ (r ≡ Verdict.Passed → Promise (image (now (index .entry)) «index_address» (now (table .entry)) «table_address»)) ⌝ }
 {
     match image::sections(index, index_address, table, table_address) {
         Check::Fault(r) => Verdict::Fault(r, 0),

@@ -14,12 +14,14 @@ use Rattle.section.specs.declared.Check.{Check}
 use Rattle.section.proofs.Checks.{and-exact, named}
 use Rattle.section.proofs.Rules.{section-exact, index-exact}
 use Rattle.entry.specs.Index.{functionAt, contentAt, onContent, onIndex}
+use Rattle.entry.specs.Table.{tableEntryOf}
 use Rattle.entry.specs.Parts.{chosen}
 use Rattle.entry.specs.Read.{Inside, Contents, IndexGives, Known, TableRefusal, TableGives}
 use Rattle.entry.specs.declared.Held.{Held}
 use Rattle.entry.specs.declared.Span.{Span}
 use Rattle.entry.specs.declared.Personality.{Personality}
 use Rattle.entry.specs.declared.Content.{Content}
+use Rattle.entry.specs.declared.TableEntry.{TableEntry}
 use Rattle.entry.specs.declared.TableRead.{TableRead}
 use Rattle.entry.specs.declared.ContentRead.{ContentRead}
 use Rattle.entry.specs.declared.IndexRead.{IndexRead}
@@ -27,7 +29,7 @@ use Rattle.entry.specs.declared.FunctionRead.{FunctionRead}
 use Rattle.entry.proofs.Laws.{index-gives, table-gives, index-led, index-refused, words-length, language-short}
 use Rattle.image.specs.declared.Found.{Found}
 use Rattle.image.specs.Image.{Image, countOf, sectionsOf, Sections, byPersonality, fromTable, fromPlace, fromContent, entryAt, ledIn, ledBy, languageOf}
-use Rattle.image.specs.Read.{Readable, EntryRefusal, Leads}
+use Rattle.image.specs.Read.{Readable, EntryRefusal, Leads, Names}
 
 -- ---- the section rules
 pub sections-exact : (i : Image) → (sectionsOf i ≡ Check.Fine) ↔ Sections i
@@ -72,6 +74,32 @@ module _ (i : Image) (k : ℕ) where
       go : (x : Check) → sectionsOf i ≡ x → entryAt i k ≡ ledBy i k f
       go Check.Fine s = entry-led s f e ∙ sym (led-fine s f)
       go (Check.Fault r) s = entry-faulty r s ∙ sym (led-faulty f r s)
+
+-- ---- what an entry leads to names its function
+names-entry : (f : Addr) (e : TableEntry) (p : Personality) → Names f (byPersonality f e p)
+names-entry f e (Personality.Compact n) = Names.compact
+names-entry f e (Personality.Generic a) = Names.generic
+
+names-table : (f : Addr) (x : TableRead) → Names f (fromTable f x)
+names-table f (TableRead.Entry e) = names-entry f e (e .personality)
+names-table f (TableRead.Refused r) = Names.refused
+
+names-place : (f : Addr) (i : Image) (p : Place) → Names f (fromPlace f (i .table) (i .tableAt) p)
+names-place f i (Place.At o) = names-table f (tableEntryOf (i .table) (i .tableAt) o)
+names-place f i Place.Outside = Names.refused
+
+names-content : (f : Addr) (i : Image) (c : Content) → Names f (fromContent f (i .table) (i .tableAt) c)
+names-content f i Content.CannotUnwind = Names.cannot
+names-content f i (Content.Compact p s) = Names.compact
+names-content f i (Content.Table a) = names-place f i (offsetOf (i .tableAt) (length (i .table)) a)
+
+pub led-names : (i : Image) (k : ℕ) (f : Addr) → Names f (ledIn i k f)
+unfolding ledIn
+led-names i k f = go (contentAt (i .index) (i .indexAt) k)
+  where
+    go : (x : ContentRead) → Names f (onContent x (λ c. fromContent f (i .table) (i .tableAt) c) Found.Refused)
+    go (ContentRead.Is c) = names-content f i c
+    go (ContentRead.Refused r) = Names.refused
 
 -- ---- no entry of an image whose sections pass gives 1
 module _ (i : Image) (s : Sections i) where

@@ -31,3 +31,10 @@ pub data Leads (i : Image) : Found → Type 0 where
   generic : {f p : Addr} {s : Span} {o : Off} → f .0 < 2 ^ 32 → p .0 < 2 ^ 32 → Readable i s → o .0 ≤ length (i .table) → length (languageOf i o) ≤ tableMost
       → Leads i (Found.Generic f p s o)
   refused : {r : Refusal} → EntryRefusal r → Leads i (Found.Refused r)
+
+-- what an entry leads to names the function f
+pub data Names (f : Addr) : Found → Type 0 where
+  cannot : Names f (Found.CannotUnwind f)
+  compact : {n : ℕ} {s : Span} → Names f (Found.Compact f n s)
+  generic : {p : Addr} {s : Span} {o : Off} → Names f (Found.Generic f p s o)
+  refused : {r : Refusal} → Names f (Found.Refused r)

@@ -19,6 +19,15 @@ use Rattle.lsda.specs.declared.SiteFound.{SiteFound}
 use Rattle.lookup.specs.Lookup.{sited, lookedAt, lookupOf}
 use Rattle.lookup.specs.declared.Looked.{Looked}
 
+module _ (ys : List ℕ) (c : Addr) (k : ℕ) (f : Addr) where
+  pub looked-cannot : lookedAt ys c k (Found.CannotUnwind f) ≡ Looked.CannotUnwind k f
+  unfolding lookedAt
+  looked-cannot = refl
+
+  pub looked-compact : (n : ℕ) (s : Span) → lookedAt ys c k (Found.Compact f n s) ≡ Looked.Compact k f (s .held) n
+  unfolding lookedAt
+  looked-compact n s = refl
+
 -- a generic entry: y is the call site of its language data
 pub looked-generic : (ys : List ℕ) (c : Addr) (k : ℕ) (f p : Addr) (s : Span) (o : Off) {language : List ℕ} {y : SiteFound}
     → language ≡ languageIn ys o → y ≡ callSiteOf language f c → lookedAt ys c k (Found.Generic f p s o) ≡ sited k f p y

@@ -16,11 +16,15 @@ use Rattle.search.specs.Search.{searchOf}
 use Rattle.search.specs.declared.Hit.{Hit}
 use Rattle.search.specs.declared.Searched.{Searched}
 use Rattle.search.proofs.Laws.{found-led}
-use Rattle.step.specs.Run.{runOf}
-use Rattle.step.specs.Step.{handed, refusedStep, arrived, ranBy, steppedBy, counterOf, stepOf}
+use Rattle.instruction.specs.Program.{auditInstructionsOf}
+use Rattle.step.specs.Run.{runOf, Ending}
+use Rattle.step.specs.Step.{refusedStep, arrivalOf, arrived, ranBy, steppedBy, counterOf, stepOf, Arrives}
 use Rattle.step.specs.declared.Registers.{Registers}
 use Rattle.step.specs.declared.Stepped.{Stepped}
+use Rattle.step.specs.declared.Arrival.{Arrival}
+use Rattle.step.specs.declared.run.End.{End}
 use Rattle.step.specs.declared.run.Ran.{Ran}
+use Rattle.step.proofs.Clean.{clean-run}
 
 -- the run x of a span's words, w, and the step y that it is
 module _ (xs ys st : List ℕ) (base : Addr) (given : Registers) (s : Span) {w : List ℕ} (words : w ≡ wordsIn (chosen (s .held) xs ys) s)
@@ -35,6 +39,29 @@ module _ (xs ys st : List ℕ) (base : Addr) (given : Registers) (s : Span) {w :
   pub stepped-generic : (f p : Addr) (o : Off) → y ≡ steppedBy xs ys st base given (Found.Generic f p s o)
   unfolding steppedBy
   stepped-generic f p o = ran-by
+
+-- ---- where a step leads, by what the entry leads to
+arrives : (e : End) → Ending e → Arrives (arrivalOf e)
+arrives e Ending.frame = Arrives.frame
+arrives e Ending.refused = Arrives.refused
+arrives e Ending.stack = Arrives.stack
+
+module _ (xs ys st : List ℕ) (base : Addr) (given : Registers) where
+  pub cannot-arrives : (f : Addr) → steppedBy xs ys st base given (Found.CannotUnwind f) .arrival ≡ Arrival.CannotUnwind
+  unfolding steppedBy
+  cannot-arrives f = refl
+
+  module _ (s : Span) (clean : auditInstructionsOf (wordsIn (chosen (s .held) xs ys) s) (s .skip) ≡ Check.Fine) where
+    ran-arrives : Arrives (ranBy xs ys st base given s .arrival)
+    ran-arrives = arrives _ (clean-run (wordsIn (chosen (s .held) xs ys) s) (s .skip) st base given clean)
+
+    pub compact-arrives : (f : Addr) (n : ℕ) → Arrives (steppedBy xs ys st base given (Found.Compact f n s) .arrival)
+    unfolding steppedBy
+    compact-arrives f n = ran-arrives
+
+    pub generic-arrives : (f p : Addr) (o : Off) → Arrives (steppedBy xs ys st base given (Found.Generic f p s o) .arrival)
+    unfolding steppedBy
+    generic-arrives f p o = ran-arrives
 
 module _ (i : Image) (st : List ℕ) (base : Addr) (given : Registers) where
   pub step-sections : (r : Refusal) → sectionsOf i ≡ Check.Fault r → stepOf i st base given ≡ refusedStep given r

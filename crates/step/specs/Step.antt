@@ -56,3 +56,9 @@ stepOf i st base given =
     (onSearched (searchOf (i .index) (i .indexAt) (counterOf given)) (λ h. steppedBy (i .index) (i .table) st base given (entryAt i (h .entry))) (refusedStep given))
     (refusedStep given))
     (refusedStep given)
+
+-- ---- where a step leads by instructions that the audit passes: the next frame, 12 or 17
+pub data Arrives : Arrival → Type 0 where
+  frame : Arrives Arrival.Frame
+  refused : Arrives (Arrival.Refused Refusal.Refused)
+  stack : Arrives (Arrival.Refused Refusal.Stack)

@@ -1,4 +1,5 @@
--- Sections first, then the entries. Assumes nothing.
+-- Sections first, then the entries; what the answer is says what passes and what is promised. Assumes nothing.
+use Rattle.audit.proofs.Promise.{told}
 use Rattle.audit.proofs.Turns.{audit-sections, audit-entries}
 use Rattle.image.proofs.Laws.{sections-exact}
 use mathlib.Core.Path.{sym, _∙_}
@@ -23,10 +24,10 @@ entries-requires : tie.Need-entries-requires
 entries-requires c κs = sections-exact _ .0 (sym (c .before .before .sections .ensures) ∙ c .enum-told .given .1) .index .section .short
 
 returns : tie.Need-returns
-returns c = sym (audit-sections _ _ (sym (c .before .before .before .sections .ensures) ∙ c .before .r .given .1))
+returns c = told _ _ (sym (audit-sections _ _ (sym (c .before .before .before .sections .ensures) ∙ c .before .r .given .1)))
 
 returns-2 : tie.Need-returns-2
-returns-2 c = c .entries .ensures ∙ sym (audit-entries _ (sym (c .before .before .before .sections .ensures) ∙ c .before .enum-told .given .1))
+returns-2 c = told _ _ (c .entries .ensures ∙ sym (audit-entries _ (sym (c .before .before .before .sections .ensures) ∙ c .before .enum-told .given .1)))
 
 pub audit-spec : {M : Type 1} → statement M
 audit-spec =
