@@ -17,8 +17,13 @@ ghost use Rattle.search.specs.Answers.{searchAnswer};
 ghost use Rattle.search.specs.Search.{searchOf};
 ghost use Rattle.lookup.specs.Answers.{lookedAnswer};
 ghost use Rattle.lookup.specs.Lookup.{lookupOf};
+ghost use Rattle.step.specs.Step.{stepOf};
+ghost use Rattle.audit.specs.Answers.{verdictAnswer};
+ghost use Rattle.audit.specs.Audit.{auditOf};
+ghost use Rattle.anrukfal.specs.Step.{registersOf, StepTold};
 ghost use Rattle.bundle.specs.Answers.{bundleAnswer};
 ghost use Rattle.bundle.specs.Bundle.{bundleOf};
+use audit::Verdict;
 use bundle::BundleRead;
 use entry::IndexRead;
 use entry::TableRead;
@@ -29,6 +34,8 @@ use pointer::Read;
 use search::Searched;
 use section::Addr;
 use section::Off;
+use step::Arrival;
+use step::Registers;
 
 mod rows;
 
@@ -211,6 +218,86 @@ pub extern "C" fn anrukfal_lookup(
         }
         Looked::Refused(r) => {
             *row = [0; 9];
+            r.number()
+        }
+    }
+}
+
+// Kind, count. The registers go in and come out; a refused step leaves them as they were.
+#[no_mangle]
+pub extern "C" fn anrukfal_step<'a>(
+    index: &'a [u8],
+    index_address: u32,
+    table: &'a [u8],
+    table_address: u32,
+    stack: &[u8],
+    stack_address: u32,
+    core: &mut [u32; 16],
+    vfp: &mut [u64; 32],
+    row: &mut [u32; 2],
+) -> u32
+    ensures { λ r. ⌜ StepTold (stepOf (image (now (index .entry)) (addr «index_address») (now (table .entry)) (addr «table_address»)) (now (stack .entry)) (addr «stack_address») (registersOf (now (core .entry)) (now (vfp .entry)))) r (now (core .exit)) (now (vfp .exit)) (now (row .exit)) ⌝ }
+{
+    let core_given = *core;
+    let vfp_given = *vfp;
+    let given = Registers {
+        core: core_given,
+        vfp: vfp_given,
+    };
+    let stepped = step::step(
+        index,
+        Addr(index_address),
+        table,
+        Addr(table_address),
+        stack,
+        Addr(stack_address),
+        given,
+    );
+    let registers = stepped.registers;
+    let core_after = registers.core;
+    let vfp_after = registers.vfp;
+    *core = core_after;
+    *vfp = vfp_after;
+    let arrival = stepped.arrival;
+    match arrival {
+        Arrival::Frame => {
+            *row = [0, stepped.count];
+            0
+        }
+        Arrival::CannotUnwind => {
+            *row = [1, stepped.count];
+            0
+        }
+        Arrival::Refused(r) => {
+            *row = [0; 2];
+            r.number()
+        }
+    }
+}
+
+// The entry at fault; 0 for a section fault and for an image that passes.
+#[no_mangle]
+pub extern "C" fn anrukfal_audit<'a>(
+    index: &'a [u8],
+    index_address: u32,
+    table: &'a [u8],
+    table_address: u32,
+    row: &mut [u32; 1],
+) -> u32
+    ensures { λ r. ⌜ Told (verdictAnswer (auditOf (image (now (index .entry)) (addr «index_address») (now (table .entry)) (addr «table_address»)))) r (now (row .exit)) ⌝ }
+{
+    match audit::audit(
+        index,
+        Addr(index_address),
+        table,
+        Addr(table_address),
+    ) {
+        Verdict::Passed => {
+            *row = [0];
+            0
+        }
+        Verdict::Fault(r, entry) => {
+            *row = [entry];
             r.number()
         }
     }
