@@ -1,5 +1,5 @@
 -- Laws of reading a bundle: one for each way to an answer. Assumes nothing.
-use Prim.Native.Nat.{ℕ, _+_, _*_, _≤_, _<_}
+use Prim.Native.Nat.{ℕ, _+_, _*_, _/_, _≤_, _<_}
 use mathlib.Core.Path.{_≡_, refl, sym, _∙_}
 use mathlib.Core.List.{List}
 use native.Mathlib.Omega.{arith}
@@ -14,7 +14,14 @@ use Rattle.section.specs.declared.Word.the-variants.{At, Short}
 use Rattle.section.proofs.Picks.{by-test}
 use Rattle.section.proofs.Words.{word-here, word-out}
 use Rattle.bundle.specs.Bundle.{mostEntries, mostWords, laidOf, fromWords, fromEntries, bundleOf}
+use Rattle.section.specs.View.{bytesOf}
+use Rattle.image.specs.Image.{image}
+use Rattle.audit.specs.Audit.{auditOf}
+use Rattle.audit.specs.declared.Verdict.{Verdict}
+use Rattle.bundle.specs.Audit.{reportedOf, auditBundleOf}
+use Rattle.bundle.specs.declared.Bundle.{Bundle}
 use Rattle.bundle.specs.declared.BundleRead.{BundleRead}
+use Rattle.bundle.specs.declared.Report.{Report}
 
 module _ (xs : List ℕ) (a b : Addr) (n : ℕ) where
   pub words-short : wordAt xs (16 + 8 * n) ≡ Short → fromWords xs a b n ≡ BundleRead.Refused Refusal.Bundle
@@ -82,3 +89,15 @@ module _ (xs : List ℕ) where
     bundle-on d i t f g =
         let h = word-here xs 8 t g in
         rw (e, eq-eqb first 2 d, le-leb 12 (length xs) (h .0), ← (word-here xs 4 i f .1), ← (h .1))
+
+-- ---- the audit of a bundle
+module _ (xs : List ℕ) where
+  pub audit-refused : (r : Refusal) → bundleOf xs ≡ BundleRead.Refused r → auditBundleOf xs ≡ Report.Fault r
+  unfolding auditBundleOf
+  audit-refused r e = rw e
+
+  -- the sections, v is the verdict on them
+  pub audit-read : (b : Bundle) → bundleOf xs ≡ BundleRead.Is b → (is ts : List ℕ) → is ≡ bytesOf xs (b .index .0, b .«index_bytes») → ts ≡ bytesOf xs (b .table .0, b .«table_bytes»)
+      → (v : Verdict) → v ≡ auditOf (image is (b .«index_address») ts (b .«table_address»)) → auditBundleOf xs ≡ reportedOf (b .«index_bytes» / 8) v
+  unfolding auditBundleOf
+  audit-read b e is ts p q v h = rw (e, h, p, q)

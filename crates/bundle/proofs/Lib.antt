@@ -1,2 +1,3 @@
 -- The laws that the proofs of this crate and the crates above cite.
 pub mod Laws
+pub mod Placed

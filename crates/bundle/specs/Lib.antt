@@ -1,2 +1,4 @@
 pub mod Bundle
+pub mod Read
+pub mod Audit
 pub mod Answers

@@ -1,6 +1,8 @@
 // A bundle: two addresses, the index and the table, each section after its count.
 ghost use mathlib.Core.Path.{_≡_};
+ghost use Rattle.bundle.specs.Audit.{reportedOf, auditBundleOf};
 ghost use Rattle.bundle.specs.Bundle.{bundleOf};
+use audit::Verdict;
 use section::Addr;
 use section::Off;
 use section::Refusal;
@@ -40,6 +42,38 @@ pub fn read_bundle(bytes: &[u8]) -> BundleRead
                     Word::At(table) => read::from_entries(bytes, Addr(index), Addr(table)),
                 },
             }
+        }
+    }
+}
+
+// What the audit of a bundle says: the entries of one that passes; a fault of an entry; or a fault of the bundle or of a section.
+pub enum Report {
+    Passed(u32),
+    Entry(Refusal, u32),
+    Fault(Refusal),
+}
+
+// The verdict on an index of `entries` entries. The sections of a bundle that was read pass, so a fault is an entry's.
+fn reported(entries: u32, verdict: Verdict) -> Report
+    ensures { λ r. ⌜ r ≡ reportedOf entries verdict ⌝ }
+{
+    match verdict {
+        Verdict::Passed => Report::Passed(entries),
+        Verdict::Fault(r, entry) => Report::Entry(r, entry),
+    }
+}
+
+// Reads a bundle and audits its image.
+pub fn audit_bundle(bytes: &[u8]) -> Report
+    ensures { λ r. ⌜ r ≡ auditBundleOf (now (bytes .entry)) ⌝ }
+{
+    match read_bundle(bytes) {
+        BundleRead::Refused(r) => Report::Fault(r),
+        BundleRead::Is(b) => {
+            let index = section::part(bytes, b.index.0 as usize, b.index_bytes as usize);
+            let table = section::part(bytes, b.table.0 as usize, b.table_bytes as usize);
+            let verdict = audit::audit(index, b.index_address, table, b.table_address);
+            reported(b.index_bytes / 8, verdict)
         }
     }
 }

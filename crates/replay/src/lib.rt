@@ -1,30 +1,31 @@
 // Replays cases that a text lists, one to a line: each line is written again with its answer, the refusal's number and the row, in hex.
 use crate::text::ROOM;
 
+mod images;
 mod text;
 
 // A number as 32 bits.
-fn low(x: u64) -> u32 {
+pub(crate) fn low(x: u64) -> u32 {
     (x % 0x1_0000_0000) as u32
 }
 
-fn show_number(x: u32) {
+pub(crate) fn show_number(x: u32) {
     io::write_all(1, b" ");
     io::print_hex(1, x as u64, 1);
 }
 
 // The answer of a case: its number, and rows of each length.
-fn show(number: u32) {
+pub(crate) fn show(number: u32) {
     io::write_all(1, b" =");
     show_number(number);
 }
 
-fn show1(number: u32, row: &[u32; 1]) {
+pub(crate) fn show1(number: u32, row: &[u32; 1]) {
     show(number);
     show_number(row[0]);
 }
 
-fn show2(number: u32, row: &[u32; 2]) {
+pub(crate) fn show2(number: u32, row: &[u32; 2]) {
     show(number);
     show_number(row[0]);
     show_number(row[1]);
@@ -138,6 +139,23 @@ fn call_site(line: &[u8], at: usize) {
     show5(number, &row);
 }
 
+// search INDEX_ADDRESS COUNTER INDEX
+fn search(line: &[u8], at: usize) {
+    let address = text::number(line, at);
+    let counter = text::number(line, address.next);
+    let got = text::fill(line, counter.next);
+    let bytes = got.bytes;
+    let n = got.len;
+    let mut row = [1u32; 2];
+    let number = anrukfal::anrukfal_search(
+        &bytes[..n],
+        low(address.value),
+        low(counter.value),
+        &mut row,
+    );
+    show2(number, &row);
+}
+
 // bundle BYTES
 fn bundle(line: &[u8], at: usize) {
     let got = text::fill(line, at);
@@ -152,7 +170,7 @@ fn bundle(line: &[u8], at: usize) {
 fn case(line: &[u8]) {
     io::write_all(1, line);
     let at = text::word_end(line);
-    if at < line.len() {
+    if 0 < line.len() {
         let first = line[0];
         match first {
             b'r' => relative(line, at),
@@ -161,6 +179,10 @@ fn case(line: &[u8]) {
             b'e' => entry(line, at),
             b't' => table(line, at),
             b'c' => call_site(line, at),
+            b's' => search(line, at),
+            b'l' => images::lookup(line, at),
+            b'f' => images::step(line, at),
+            b'a' => images::audit(line, at),
             b'b' => bundle(line, at),
             _ => {}
         }

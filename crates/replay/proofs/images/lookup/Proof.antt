@@ -1,0 +1,78 @@
+-- The bytes that were read are parts of their rooms. Assumes nothing.
+use lib.Seq.{length-take-le}
+use mathlib.Core.Path.{sym}
+use borrow.Author.Needs.{needs}
+use Rattle.replay.proofs.images.lookup.Statement.{statement}
+use Rattle.replay.proofs.images.lookup.Tie as tie
+use Rattle.replay.proofs.images.lookup.Reads as reads
+use Rattle.replay.proofs.images.lookup.Lts as lts
+use Rattle.anrukfal.proofs.anrukfal_lookup.Reads as anrukfal-lookup-reads
+use Rattle.replay.proofs.images.show9.Reads as show9-reads
+use Rattle.replay.proofs.low.Reads as low-reads
+use Rattle.replay.proofs.text.fill.Reads as fill-reads
+use Rattle.replay.proofs.text.number.Reads as number-reads
+
+number-requires : tie.Need-number-requires
+number-requires c κs = search needs
+
+fill-requires : tie.Need-fill-requires
+fill-requires c κs = search needs
+
+number-requires-2 : tie.Need-number-requires-2
+number-requires-2 c κs = search needs
+
+fill-requires-2 : tie.Need-fill-requires-2
+fill-requires-2 c κs = search needs
+
+number-requires-3 : tie.Need-number-requires-3
+number-requires-3 c κs = search needs
+
+array-share-prefix-index-bytes : tie.Need-array-share-prefix-index-bytes
+array-share-prefix-index-bytes c = search needs
+
+slice-aggregate-anrukfal-lookup : tie.Need-slice-aggregate-anrukfal-lookup
+slice-aggregate-anrukfal-lookup c = sym (length-take-le _ _ (c .before .before .before .before .before .before .fill .ensures))
+
+low-requires : tie.Need-low-requires
+low-requires c κs = search needs
+
+array-share-prefix-table-bytes : tie.Need-array-share-prefix-table-bytes
+array-share-prefix-table-bytes c = search needs
+
+slice-aggregate-anrukfal-lookup-2 : tie.Need-slice-aggregate-anrukfal-lookup-2
+slice-aggregate-anrukfal-lookup-2 c = sym (length-take-le _ _ (c .before .before .before .before .before .before .fill2 .ensures))
+
+low-requires-2 : tie.Need-low-requires-2
+low-requires-2 c κs = search needs
+
+low-requires-3 : tie.Need-low-requires-3
+low-requires-3 c κs = search needs
+
+anrukfal-lookup-requires : tie.Need-anrukfal-lookup-requires
+anrukfal-lookup-requires c κs = search needs
+
+show9-requires : tie.Need-show9-requires
+show9-requires c κs = search needs
+
+returns : tie.Need-returns
+returns c = search needs
+
+pub lookup-spec : {M : Type 1} → statement M
+lookup-spec =
+    tie.close
+    (tie.spec
+    number-requires
+    fill-requires
+    number-requires-2
+    fill-requires-2
+    number-requires-3
+    array-share-prefix-index-bytes
+    slice-aggregate-anrukfal-lookup
+    low-requires
+    array-share-prefix-table-bytes
+    slice-aggregate-anrukfal-lookup-2
+    low-requires-2
+    low-requires-3
+    anrukfal-lookup-requires
+    show9-requires
+    returns)
