@@ -286,12 +286,7 @@ pub extern "C" fn anrukfal_audit<'a>(
 ) -> u32
     ensures { λ r. ⌜ Told (verdictAnswer (auditOf (image (now (index .entry)) (addr «index_address») (now (table .entry)) (addr «table_address»)))) r (now (row .exit)) ⌝ }
 {
-    match audit::audit(
-        index,
-        Addr(index_address),
-        table,
-        Addr(table_address),
-    ) {
+    match audit::audit(index, Addr(index_address), table, Addr(table_address)) {
         Verdict::Passed => {
             *row = [0];
             0

@@ -1,9 +1,9 @@
 // Cases of a whole image: lookup, step and audit.
 use crate::low;
 use crate::show;
+use crate::show_number;
 use crate::show1;
 use crate::show2;
-use crate::show_number;
 
 fn show9(number: u32, row: &[u32; 9]) {
     show(number);
