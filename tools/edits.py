@@ -9,7 +9,7 @@ import sys
 unfit, count = [], 0
 for log in sorted(glob.glob("target/must-fail/*/*/.log")):
     name = "/".join(log.split("/")[2:4])
-    errors = [line for line in open(log, encoding="utf-8") if ": error" in line]
+    errors = [line for line in open(log, encoding="utf-8") if re.search(r": error|: (unsolved|goal) |does not close", line)]
     first = re.sub(r"^.*?: error", "error", errors[0]).strip() if errors else "no error"
     count += 1
     if re.search(r"has no `(Need-|Tie|Inv|After-)|has no field|not in scope|error\[", first) or not errors:
