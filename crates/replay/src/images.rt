@@ -7,9 +7,15 @@ use crate::show2;
 
 fn show9(number: u32, row: &[u32; 9]) {
     show(number);
-    for i in 0..9 {
-        show_number(row[i]);
-    }
+    show_number(row[0]);
+    show_number(row[1]);
+    show_number(row[2]);
+    show_number(row[3]);
+    show_number(row[4]);
+    show_number(row[5]);
+    show_number(row[6]);
+    show_number(row[7]);
+    show_number(row[8]);
 }
 
 // lookup INDEX_ADDRESS INDEX TABLE_ADDRESS TABLE COUNTER

@@ -33,23 +33,29 @@ pub(crate) fn show2(number: u32, row: &[u32; 2]) {
 
 fn show4(number: u32, row: &[u32; 4]) {
     show(number);
-    for i in 0..4 {
-        show_number(row[i]);
-    }
+    show_number(row[0]);
+    show_number(row[1]);
+    show_number(row[2]);
+    show_number(row[3]);
 }
 
 fn show5(number: u32, row: &[u32; 5]) {
     show(number);
-    for i in 0..5 {
-        show_number(row[i]);
-    }
+    show_number(row[0]);
+    show_number(row[1]);
+    show_number(row[2]);
+    show_number(row[3]);
+    show_number(row[4]);
 }
 
 fn show6(number: u32, row: &[u32; 6]) {
     show(number);
-    for i in 0..6 {
-        show_number(row[i]);
-    }
+    show_number(row[0]);
+    show_number(row[1]);
+    show_number(row[2]);
+    show_number(row[3]);
+    show_number(row[4]);
+    show_number(row[5]);
 }
 
 // relative WORD PLACE
