@@ -1,0 +1,13 @@
+//! The Rust that Anrukfal follows, a plain reading of the paper, and the library, side by side.
+pub mod anrukfal;
+pub mod cases;
+pub mod memory;
+pub mod original;
+pub mod parted;
+pub mod plain;
+pub mod random;
+pub mod rows;
+pub mod tally;
+pub mod unrecoverable;
+
+include!(concat!(env!("OUT_DIR"), "/unwind.rs"));

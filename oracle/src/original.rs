@@ -1,0 +1,117 @@
+//! The Rust's own answers. None: it panicked.
+use crate::anrukfal::{Answer, CallSite, Content, IndexEntry, Instruction, Personality, Refusal, Span, TableEntry};
+use crate::unwind::unw_lsda::{self, LSDA};
+use crate::unwind::unw_table::probe::{self, Walk};
+use crate::unwind::unw_table::{ExTabEntry, PersonalityType, Prel31, UnwindInstruction};
+use gimli::{Error, LittleEndian};
+use std::panic::{catch_unwind, AssertUnwindSafe};
+
+pub fn caught<T>(call: impl FnOnce() -> T) -> Option<T> {
+    catch_unwind(AssertUnwindSafe(call)).ok()
+}
+
+/// The target of a word where it lies.
+pub fn target(word: &[u8; 4]) -> u32 {
+    Prel31::from_bytes(word).value()
+}
+
+/// The target of a word, had it lain at `place`.
+pub fn target_at(word: u32, place: u32) -> u32 {
+    probe::target_at(word, place)
+}
+
+pub fn instruction(is: UnwindInstruction) -> Instruction {
+    match is {
+        UnwindInstruction::DataPop { size } => Instruction::DataPop(size),
+        UnwindInstruction::DataPush { size } => Instruction::DataPush(size),
+        UnwindInstruction::RegPop { mask } => Instruction::RegPop(mask),
+        UnwindInstruction::RegToSp { reg_num } => Instruction::RegToSp(reg_num as u32),
+        UnwindInstruction::VfpPop { start_reg_num, count } => {
+            Instruction::VfpPop { start: start_reg_num as u32, count: count as u32 }
+        }
+        UnwindInstruction::Finish => Instruction::Finish,
+        UnwindInstruction::Refused => Instruction::Refused,
+        UnwindInstruction::Reserved => Instruction::Reserved,
+        UnwindInstruction::Unimplemented => Instruction::Unimplemented,
+        UnwindInstruction::Error => Instruction::Error,
+        UnwindInstruction::WregPop | UnwindInstruction::WcgrPop => unreachable!("the decoder never says so"),
+    }
+}
+
+/// The next instruction of a walk, with the position after it.
+pub fn next(walk: &mut Walk) -> Option<Option<(Instruction, u32)>> {
+    let is = caught(|| walk.0.next())?;
+    Some(is.map(|is| (instruction(is), walk.position() as u32)))
+}
+
+fn span(walk: &Walk, section: &[u8]) -> Span {
+    Span {
+        offset: (walk.bytes().as_ptr() as usize - section.as_ptr() as usize) as u32,
+        words: (walk.bytes().len() / 4) as u32,
+        skip: walk.position() as u32,
+    }
+}
+
+fn compact(personality: PersonalityType) -> u32 {
+    match personality {
+        PersonalityType::Compact(selector) => selector as u32,
+        PersonalityType::Generic(_) => unreachable!("a compact entry"),
+    }
+}
+
+/// An entry of an index where it lies.
+pub fn index_entry(index: &[u8], number: usize) -> Answer<IndexEntry> {
+    let bytes = index[8 * number..].first_chunk().unwrap();
+    let (function, content) = match probe::index_entry(bytes) {
+        Ok(entry) => entry,
+        Err("ExIdxEntry::from_bytes: corrupted entry.") => return Err(Refusal::Corrupt),
+        Err(other) => unreachable!("{other}"),
+    };
+    let content = match content {
+        probe::Content::Table(address) => Content::Table(address),
+        probe::Content::Compact(p, walk) => Content::Compact { selector: compact(p), span: span(&walk, index) },
+        probe::Content::CantUnwind => Content::CannotUnwind,
+    };
+    Ok(IndexEntry { function, content })
+}
+
+/// An entry of a table where it lies.
+pub fn table_entry(table: &[u8], offset: usize) -> Option<Answer<TableEntry>> {
+    Some(match caught(|| ExTabEntry::from_bytes(table, offset))? {
+        Ok((entry, language)) => Ok(TableEntry {
+            personality: match entry.get_personality() {
+                PersonalityType::Compact(selector) => Personality::Compact(selector as u32),
+                PersonalityType::Generic(address) => Personality::Generic(address),
+            },
+            span: span(&Walk(entry.get_unw_instr_iter()), table),
+            language: (language.as_ptr() as usize - table.as_ptr() as usize) as u32,
+        }),
+        Err("ExTabEntry::from_bytes: offset not multiple of 4.") => Err(Refusal::Place),
+        Err("ExTabEntry::from_bytes: unexpected compact personality number.") => Err(Refusal::Selector),
+        Err(other) => unreachable!("{other}"),
+    })
+}
+
+pub fn refusal(error: Error) -> Refusal {
+    match error {
+        Error::UnexpectedEof(_) => Refusal::Truncated,
+        Error::CannotParseOmitPointerEncoding | Error::UnknownPointerEncoding => Refusal::Encoding,
+        Error::BadUnsignedLeb128 | Error::BadSignedLeb128 => Refusal::Value,
+        Error::NoUnwindInfoForAddress => Refusal::NoSite,
+        other => unreachable!("{other}"),
+    }
+}
+
+/// A pointer as wide as gimli reads it, and the position after it.
+pub fn pointer(data: &[u8], at: usize, encoding: u8) -> Answer<(u64, usize)> {
+    unw_lsda::probe::pointer(data, at, encoding).map_err(refusal)
+}
+
+/// The first call site that covers a counter, in language data where it lies.
+pub fn call_site(data: &[u8], function: u32, counter: u32) -> Option<Answer<CallSite>> {
+    caught(|| {
+        let site = LSDA::new(data, LittleEndian, function).call_site_table_entry_for_address(counter).map_err(refusal)?;
+        let covered = site.range_of_covered_addresses();
+        Ok(CallSite { start: covered.start, end: covered.end, pad: site.landing_pad_address(), action: site.action_offset() })
+    })
+}
