@@ -9,7 +9,7 @@ use oracle::{cases, original, plain};
 
 pub fn all() -> bool {
     let mut arenas = Arena::all();
-    let tallies = [prel31(&mut arenas), instructions(), index_entries(&mut arenas), table_entries(&mut arenas), pointers(), call_sites(&mut arenas)];
+    let tallies = [listed(&mut arenas), prel31(&mut arenas), instructions(), index_entries(&mut arenas), table_entries(&mut arenas), pointers(), call_sites(&mut arenas)];
     let mut good = true;
     for t in &tallies {
         good &= t.report();
@@ -17,6 +17,44 @@ pub fn all() -> bool {
     let compared: u64 = tallies.iter().map(|t| t.compared).sum();
     println!("{:>14}: {compared:>11} compared with the Rust", "all");
     good
+}
+
+// ---- the inputs that docs/DIFFERENCES.md lists, with what it says of the Rust and of the paper
+
+fn listed(arenas: &mut [Arena]) -> Tally {
+    let mut t = Tally::new("listed");
+    let mut pop = |bytes: &[u8], there: Option<Instruction>| {
+        let words = cases::words(bytes, 0);
+        let skip = words.len() - bytes.len();
+        let says = original::next(&mut Walk::over(&words, skip).unwrap()).map(|is| is.unwrap().0);
+        let ours = anrukfal::instruction(&words, skip as u32).map(|is| is.unwrap().0);
+        t.same((ours, says), (Ok(Instruction::Error), there), bytes.len(), || hex(bytes));
+    };
+    pop(&[0xB2, 0x80, 0x80, 0x80, 0x80, 0x10], Some(Instruction::DataPop(0x204)));
+    pop(&[0xB2, 0x80, 0x80, 0x80, 0x80, 0x80, 0x00], None);
+    pop(&[0xB2, 0xFF, 0xFE, 0xFF, 0xFF, 0x03], None);
+    let table = |bytes, offset| (anrukfal::table_entry(Section { bytes, address: 0x1000 }, offset), original::table_entry(bytes, offset as usize));
+    t.same(table(&[], 0), (Err(Refusal::Truncated), None), 0, || "an empty table".into());
+    t.same(table(&[0, 0, 0, 0x80], 2), (Err(Refusal::Place), Some(Err(Refusal::Place))), 4, || "offset 2".into());
+    let mut pointer = |data: &[u8], encoding, there| {
+        let both = (anrukfal::pointer(data, 0, encoding), original::pointer(data, 0, encoding));
+        t.same(both, (Err(Refusal::Value), there), data.len(), || hex(data));
+    };
+    pointer(&[0x80, 0x80, 0x80, 0x80, 0x80, 0x00], 0x01, Ok((0, 6)));
+    pointer(&[0x80, 0x80, 0x80, 0x80, 0x80], 0x01, Err(Refusal::Truncated));
+    pointer(&[0x80, 0x80, 0x80, 0x80, 0x10], 0x01, Ok((1 << 32, 5)));
+    pointer(&[0x80, 0x80, 0x80, 0x80, 0x08], 0x09, Ok((1 << 31, 5)));
+    let top = arenas.last_mut().unwrap();
+    let end = top.size();
+    let mut site = |data: &[u8], at: usize, function, here, there| {
+        let data = top.put(data, at);
+        let both = (anrukfal::call_site(data, function, 0), original::call_site(data, function, 0));
+        t.same(both, (Err(here), there), data.len(), || format!("{} at {:x}", hex(data), address(data)));
+    };
+    site(&[0xFF, 0xFF, 0x01, 0x04, 0x01, 0x00, 0x00, 0x00], 0, u32::MAX, Refusal::Sum, None);
+    site(&[0xFF, 0xFF, 0x01, 0x01], end - 5, 0x1000, Refusal::Truncated, None);
+    site(&[0xFF, 0xFF, 0x01, 0x01, 0, 0, 0, 0], end - 8, 0x1000, Refusal::NoSite, Some(Err(Refusal::Truncated)));
+    t
 }
 
 // ---- prel31

@@ -1,6 +1,7 @@
 //! The Rust that Anrukfal follows, a plain reading of the paper, and the library, side by side.
 pub mod anrukfal;
 pub mod cases;
+pub mod images;
 pub mod memory;
 pub mod original;
 pub mod parted;

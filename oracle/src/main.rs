@@ -1,4 +1,6 @@
 //! oracle: compares the library with the Rust and with a plain reading of the paper. `oracle record FOLDER` writes the Rust's answers.
+#[cfg(feature = "all")]
+mod agree;
 mod compare;
 mod record;
 use oracle::parted::Why;
@@ -19,9 +21,13 @@ fn main() -> ExitCode {
         record::to(Path::new(folder)).unwrap();
         return ExitCode::SUCCESS;
     }
-    if compare::all() {
-        ExitCode::SUCCESS
-    } else {
-        ExitCode::FAILURE
+    let mut good = compare::all();
+    #[cfg(feature = "all")]
+    {
+        good &= agree::all(300_000);
+    }
+    match good {
+        true => ExitCode::SUCCESS,
+        false => ExitCode::FAILURE,
     }
 }

@@ -33,6 +33,11 @@ impl Arena {
         [0x0001_0000, 0x0800_0000, 0x3FFF_0000, 0x7FFF_0000, 0xBFFF_0000, 0xFFFE_0000].map(|at| Arena::new(at, 0x20000)).into()
     }
 
+    /// Three more, for sections whose stated addresses are elsewhere.
+    pub fn more() -> Vec<Arena> {
+        [0x1000_0000, 0x1100_0000, 0x1200_0000].map(|at| Arena::new(at, 0x40000)).into()
+    }
+
     pub fn size(&self) -> usize {
         self.len
     }

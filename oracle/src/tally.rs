@@ -6,6 +6,8 @@ use std::fmt::Debug;
 pub struct Tally {
     name: &'static str,
     pub compared: u64,
+    /// How often each number was the answer.
+    numbers: [u64; 19],
     left_out: BTreeMap<Why, u64>,
     pub faults: u64,
     smallest: Option<(usize, String)>,
@@ -13,7 +15,7 @@ pub struct Tally {
 
 impl Tally {
     pub fn new(name: &'static str) -> Tally {
-        Tally { name, compared: 0, left_out: BTreeMap::new(), faults: 0, smallest: None }
+        Tally { name, compared: 0, numbers: [0; 19], left_out: BTreeMap::new(), faults: 0, smallest: None }
     }
 
     /// Compares two answers to an input of a size. The input is shown only where they differ.
@@ -22,6 +24,11 @@ impl Tally {
         if ours != theirs {
             self.fault(size, || format!("{}\n    here {ours:x?}\n    there {theirs:x?}", input()));
         }
+    }
+
+    /// The number of an answer that was compared.
+    pub fn number(&mut self, number: u32) {
+        self.numbers[number as usize] += 1;
     }
 
     fn fault(&mut self, size: usize, text: impl FnOnce() -> String) {
@@ -42,10 +49,15 @@ impl Tally {
     /// Says what there is to say; true where all answers were the same.
     pub fn report(&self) -> bool {
         println!("{:>14}: {:>11} compared", self.name, self.compared);
+        if self.numbers.iter().any(|n| *n > 0) {
+            let each = self.numbers.iter().enumerate().filter(|(_, n)| **n > 0).map(|(k, n)| format!("{n} of {k}"));
+            println!("{:>14}  {:>11} by number: {}", "", "", each.collect::<Vec<_>>().join(", "));
+        }
         for (why, n) in &self.left_out {
             println!("{:>14}  {n:>11} left out: {}", "", why.row());
         }
         if let Some((_, text)) = &self.smallest {
+            let text: String = text.chars().take(3000).collect();
             println!("{:>14}  {:>11} DIFFER, the smallest: {text}", "", self.faults);
         }
         self.faults == 0
