@@ -46,15 +46,20 @@ fn padding(r: &mut Random) -> usize {
     }
 }
 
-pub fn pointer(r: &mut Random, out: &mut Vec<u8>, encoding: u8, value: u64) {
+/// A pointer; a LEB has padding up to a length.
+pub fn padded(out: &mut Vec<u8>, encoding: u8, value: u64, length: usize) {
     match encoding {
         0x00 | 0x04 | 0x0C => out.extend(value.to_le_bytes()),
-        0x01 => uleb(out, value, padding(r)),
+        0x01 => uleb(out, value, length),
         0x02 | 0x0A => out.extend((value as u16).to_le_bytes()),
         0x03 | 0x0B => out.extend((value as u32).to_le_bytes()),
-        0x09 => sleb(out, value as i64, padding(r)),
+        0x09 => sleb(out, value as i64, length),
         _ => {}
     }
+}
+
+pub fn pointer(r: &mut Random, out: &mut Vec<u8>, encoding: u8, value: u64) {
+    padded(out, encoding, value, padding(r));
 }
 
 /// Bytes that are likely to be a pointer of some encoding, with something after them at times.
@@ -87,6 +92,7 @@ pub fn instruction_bytes(r: &mut Random, most: usize) -> Vec<u8> {
     while out.len() < n {
         match r.below(12) {
             0..=2 => out.push(r.byte() & 0x7F),
+            3 if r.once_in(6) => out.extend([0x80, 0x00]),
             3 => out.extend([0x80 | r.byte() & 0xF, r.byte()]),
             4 => out.push(0x90 | r.byte() & 0xF),
             5 | 6 => out.push(0xA0 | r.byte() & 0xF),

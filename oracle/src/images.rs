@@ -38,6 +38,7 @@ fn good_list(r: &mut Random, n: usize) -> Vec<u8> {
         let left = n - out.len();
         match r.below(10) {
             0..=2 => out.push(r.byte() & 0x7F),
+            3 if left > 1 && r.once_in(6) => out.extend([0x80, 0x00]),
             3 if left > 1 => out.extend([0x80 | r.byte() & 0xF, 1 | r.byte()]),
             4 => out.push(0x90 | r.one_of(&[0, 4, 7, 11, 12, 14])),
             5 | 6 => out.push(0xA0 | r.byte() & 0xF),
@@ -65,10 +66,11 @@ fn good_language(r: &mut Random, sites: usize, room: usize) -> Vec<u8> {
     let mut start = 0;
     for _ in 0..sites {
         let length = r.below(room / (sites + 1) + 1) as u64;
-        cases::pointer(r, &mut table, encoding, start);
-        cases::pointer(r, &mut table, encoding, length);
+        let padding = if r.once_in(8) { 1 + r.below(5) } else { 1 };
+        cases::padded(&mut table, encoding, start, padding);
+        cases::padded(&mut table, encoding, length, padding);
         let pad = if r.once_in(2) { 0 } else { r.below(room) as u64 };
-        cases::pointer(r, &mut table, encoding, pad);
+        cases::padded(&mut table, encoding, pad, 1);
         cases::uleb(&mut table, if r.once_in(3) { r.below(200) as u64 } else { 0 }, 1);
         start += length + r.below(3) as u64;
     }
