@@ -32,7 +32,7 @@ impl Made {
 }
 
 /// An instruction list with no fault, of so many bytes.
-fn good_list(r: &mut Random, n: usize) -> Vec<u8> {
+pub fn good_list(r: &mut Random, n: usize) -> Vec<u8> {
     let mut out = Vec::new();
     while out.len() < n {
         let left = n - out.len();
@@ -52,8 +52,8 @@ fn good_list(r: &mut Random, n: usize) -> Vec<u8> {
     out
 }
 
-/// Language data with no fault; its call sites lie below `room` bytes of the function.
-fn good_language(r: &mut Random, sites: usize, room: usize) -> Vec<u8> {
+/// Language data with no fault; its call sites lie below `room` bytes of the function. The usual one has ULEBs with no padding.
+pub fn good_language(r: &mut Random, sites: usize, room: usize, usual: bool) -> Vec<u8> {
     let mut out = vec![0xFF];
     if r.once_in(3) {
         out.push(r.one_of(&[0x00, 0x10, 0x90]));
@@ -61,12 +61,12 @@ fn good_language(r: &mut Random, sites: usize, room: usize) -> Vec<u8> {
     } else {
         out.push(0xFF);
     }
-    let encoding = if r.once_in(4) { r.one_of(&cases::ENCODINGS[..9]) } else { 0x01 };
+    let encoding = if !usual && r.once_in(4) { r.one_of(&cases::ENCODINGS[..9]) } else { 0x01 };
     let mut table = Vec::new();
     let mut start = 0;
     for _ in 0..sites {
         let length = r.below(room / (sites + 1) + 1) as u64;
-        let padding = if r.once_in(8) { 1 + r.below(5) } else { 1 };
+        let padding = if !usual && r.once_in(8) { 1 + r.below(5) } else { 1 };
         cases::padded(&mut table, encoding, start, padding);
         cases::padded(&mut table, encoding, length, padding);
         let pad = if r.once_in(2) { 0 } else { r.below(room) as u64 };
@@ -98,7 +98,7 @@ pub fn good_entry(r: &mut Random, sites: usize, room: usize) -> Vec<u8> {
             out.extend((r.word() & 0x7FFF_FFFF).to_le_bytes());
             out.extend(cases::words(&good_list(r, 3 + 4 * more), 1));
             out[7] = more as u8;
-            out.extend(good_language(r, sites, room));
+            out.extend(good_language(r, sites, room, false));
         }
     }
     out
@@ -150,6 +150,46 @@ pub fn image(r: &mut Random, entries: usize, room: usize, wild: bool) -> Made {
         damage(r, &mut made);
     }
     stack(r, &mut made);
+    made
+}
+
+/// A sound image of so many entries as a linker lays it out; entries share those of the table once it is full.
+pub fn sound(r: &mut Random, entries: usize) -> Made {
+    let mut made = Made::default();
+    made.index.address = 0x0806_0000;
+    made.table.address = 0x0805_0000;
+    let mut places = Vec::new();
+    let mut function = 0x0800_0000;
+    for k in 0..entries as u32 {
+        made.functions.push(function);
+        let at = made.index.address + 8 * k;
+        made.index.bytes.extend(distance(at, function));
+        match r.below(6) {
+            0 => made.index.bytes.extend([1, 0, 0, 0]),
+            1 | 2 => {
+                let mut word = cases::words(&good_list(r, 3), 1);
+                word[3] = 0x80;
+                made.index.bytes.extend(word);
+            }
+            _ => {
+                if made.table.bytes.len() < 65_000 {
+                    places.push(made.table.address + made.table.bytes.len() as u32);
+                    let mut entry = good_entry(r, 3, 32);
+                    if entry[3] < 0x80 {
+                        let words = 8 + 4 * entry[7] as usize;
+                        entry.truncate(words);
+                        entry.extend(good_language(r, 3, 32, true));
+                    }
+                    made.table.bytes.extend(entry);
+                    made.table.bytes.resize(made.table.bytes.len().next_multiple_of(4), 0);
+                }
+                made.index.bytes.extend(distance(at + 4, r.one_of(&places)));
+            }
+        }
+        function += 1 + r.below(40) as u32;
+    }
+    made.stack.address = 0x2000_0100;
+    made.stack.bytes = r.bytes(4096);
     made
 }
 

@@ -115,3 +115,44 @@ pub fn call_site(data: &[u8], function: u32, counter: u32) -> Option<Answer<Call
         Ok(CallSite { start: covered.start, end: covered.end, pad: site.landing_pad_address(), action: site.action_offset() })
     })
 }
+
+// ---- what the bench times: no panics are caught here
+
+/// All instructions of a list, each folded into one number.
+pub fn fold_list(words: &[u8], skip: usize) -> u32 {
+    let walk = Walk::over(words, skip).unwrap();
+    let mut total = 0u32;
+    for is in walk.0 {
+        let (kind, a, b) = match is {
+            UnwindInstruction::DataPop { size } => (1, size, 0),
+            UnwindInstruction::DataPush { size } => (2, size, 0),
+            UnwindInstruction::RegPop { mask } => (3, mask, 0),
+            UnwindInstruction::RegToSp { reg_num } => (4, reg_num as u32, 0),
+            UnwindInstruction::VfpPop { start_reg_num, count } => (5, start_reg_num as u32, count as u32),
+            UnwindInstruction::Finish => (6, 0, 0),
+            UnwindInstruction::Refused => (7, 0, 0),
+            UnwindInstruction::Reserved => (8, 0, 0),
+            UnwindInstruction::Unimplemented => (9, 0, 0),
+            _ => (10, 0, 0),
+        };
+        total = total.wrapping_mul(31).wrapping_add(kind).wrapping_add(a).wrapping_add(b);
+    }
+    total
+}
+
+/// A call site's fields folded into one number, or its refusal's number.
+pub fn fold_site(data: &[u8], function: u32, counter: u32) -> u32 {
+    match LSDA::new(data, LittleEndian, function).call_site_table_entry_for_address(counter) {
+        Ok(site) => {
+            let covered = site.range_of_covered_addresses();
+            let (pad, action) = (site.landing_pad_address(), site.action_offset());
+            covered.start ^ covered.end ^ pad.unwrap_or(0) ^ action.is_some() as u32 ^ action.unwrap_or(0)
+        }
+        Err(error) => refusal(error).number(),
+    }
+}
+
+/// All pointers of an encoding that the data holds, added up.
+pub fn sum_pointers(data: &[u8], encoding: u8) -> u32 {
+    unw_lsda::probe::sum(data, encoding)
+}
