@@ -64,7 +64,7 @@ impl Bench {
 }
 
 fn main() -> ExitCode {
-    let rounds = std::env::args().nth(1).map_or(201, |n| n.parse().unwrap());
+    let rounds = std::env::args().nth(1).map_or(101, |n| n.parse().unwrap());
     let mut b = Bench { rounds, agreed: true };
     println!("| what | ours, ns | theirs, ns | ratio | goal | |");
     println!("|---|---|---|---|---|---|");
@@ -118,8 +118,10 @@ fn lists(b: &mut Bench, what: &str, lists: &[Vec<u8>]) {
 
 fn instructions(b: &mut Bench) {
     let mut r = Random::seeded(41);
-    let mut made = |n: usize| -> Vec<Vec<u8>> { (0..1000).map(|_| cases::words(&images::good_list(&mut r, n), 1)).collect() };
-    let (short, long) = (made(3), made(63));
+    let mut made = |count: usize, n: usize| -> Vec<Vec<u8>> {
+        (0..count).map(|_| cases::words(&images::good_list(&mut r, n), 1)).collect()
+    };
+    let (short, long) = (made(20_000, 3), made(1000, 63));
     lists(b, "instruction, lists of 3 bytes, the Rust", &short);
     lists(b, "instruction, lists of 63 bytes, the Rust", &long);
 }
@@ -128,7 +130,7 @@ fn pointers(b: &mut Bench) {
     let mut r = Random::seeded(42);
     for (name, encoding, most) in [("ULEB of 1 byte", 0x01, 7), ("ULEB of 1 to 5 bytes", 0x01, 32), ("SLEB of 1 to 5 bytes", 0x09, 31), ("udata4", 0x03, 32)] {
         let mut data = Vec::new();
-        let n = 4000;
+        let n = 12_000;
         for _ in 0..n {
             let value = (r.word() as u64) >> (32 - most) >> if most > 7 { r.below(most) } else { 0 };
             cases::padded(&mut data, encoding, value, 1);
@@ -151,7 +153,7 @@ fn pointers(b: &mut Bench) {
 fn call_sites(b: &mut Bench) {
     let mut r = Random::seeded(43);
     for sites in [2, 10, 100] {
-        let all: Vec<(Vec<u8>, Vec<u32>)> = (0..100)
+        let all: Vec<(Vec<u8>, Vec<u32>)> = (0..200)
             .map(|_| {
                 let data = images::good_language(&mut r, sites, 20 * sites, true);
                 let counters = (0..16).map(|_| 0x0800_1000 + r.below(20 * sites) as u32).collect();
@@ -178,7 +180,7 @@ fn call_sites(b: &mut Bench) {
             }
             total
         };
-        b.compare(&format!("call site, {sites} sites, the Rust"), 1600, ours, theirs, 0.8);
+        b.compare(&format!("call site, {sites} sites, the Rust"), 3200, ours, theirs, 0.8);
     }
 }
 
@@ -190,7 +192,7 @@ fn of_image(b: &mut Bench, entries: usize) {
     let image = made.image();
     let (index, table, stack) = (image.index, image.table, made.stack.section());
     assert!(plain::audit(&image).is_ok());
-    let counters: Vec<u32> = (0..2000).map(|_| images::counter(&mut r, &made)).collect();
+    let counters: Vec<u32> = (0..50_000).map(|_| images::counter(&mut r, &made)).collect();
     let title = |what: &str| format!("{what}, {entries} entries, plain Rust");
 
     let ours = || {
@@ -263,7 +265,7 @@ fn mixed(n: u32, registers: &Registers) -> u32 {
 fn step(b: &mut Bench, what: &str, made: &Made, r: &mut Random) {
     let image = made.image();
     let (index, table, stack) = (image.index, image.table, made.stack.section());
-    let all: Vec<Registers> = (0..1000)
+    let all: Vec<Registers> = (0..8192)
         .map(|_| {
             let mut registers = images::registers(r, made);
             for k in 0..15 {
