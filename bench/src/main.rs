@@ -98,15 +98,14 @@ fn fold_list(words: &[u8], skip: u32) -> u32 {
 }
 
 fn lists(b: &mut Bench, what: &str, lists: &[Vec<u8>]) {
-    let items: usize = lists.iter().map(|words| {
-        let mut n = 0;
+    let mut items = 0;
+    for words in lists {
         let mut at = 1;
         while let Ok(Some((_, next))) = plain::instruction(words, at) {
             at = next;
-            n += 1;
+            items += 1;
         }
-        n
-    }).sum();
+    }
     b.compare(
         what,
         items,
@@ -122,8 +121,10 @@ fn instructions(b: &mut Bench) {
         (0..count).map(|_| cases::words(&images::good_list(&mut r, n), 1)).collect()
     };
     let (short, long) = (made(20_000, 3), made(1000, 63));
-    lists(b, "instruction, lists of 3 bytes, the Rust", &short);
-    lists(b, "instruction, lists of 63 bytes, the Rust", &long);
+    let usual: Vec<Vec<u8>> = (0..20_000).map(|_| cases::words(&images::usual_list(&mut r, 7), 1)).collect();
+    lists(b, "instruction, usual lists, the Rust", &usual);
+    lists(b, "instruction, any lists of 3 bytes, the Rust", &short);
+    lists(b, "instruction, any lists of 63 bytes, the Rust", &long);
 }
 
 fn pointers(b: &mut Bench) {

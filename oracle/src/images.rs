@@ -52,6 +52,26 @@ pub fn good_list(r: &mut Random, n: usize) -> Vec<u8> {
     out
 }
 
+/// An instruction list as compilers write it: sp from a frame register or a data pop, VFP and register pops, then Finish up to so many bytes.
+pub fn usual_list(r: &mut Random, n: usize) -> Vec<u8> {
+    let mut out = Vec::new();
+    match r.below(8) {
+        0 | 1 => out.push(r.one_of(&[0x97, 0x9B])),
+        2..=5 => out.push(r.below(12) as u8),
+        6 => out.extend([0xB2, r.byte() & 0x7F]),
+        _ => {}
+    }
+    if r.once_in(8) {
+        out.extend([0xC9, 0x80 | r.below(8) as u8]);
+    }
+    match r.below(4) {
+        0 => out.extend([0x84 | r.byte() & 0xB, r.byte()]),
+        _ => out.push(0xA8 | r.byte() & 7),
+    }
+    out.resize(n.max(out.len()), 0xB0);
+    out
+}
+
 /// Language data with no fault; its call sites lie below `room` bytes of the function. The usual one has ULEBs with no padding.
 pub fn good_language(r: &mut Random, sites: usize, room: usize, usual: bool) -> Vec<u8> {
     let mut out = vec![0xFF];
