@@ -24,7 +24,7 @@ fn main() -> ExitCode {
     let mut good = compare::all();
     #[cfg(feature = "all")]
     {
-        good &= agree::all(300_000);
+        good &= agree::all(3_000_000);
     }
     match good {
         true => ExitCode::SUCCESS,
