@@ -29,7 +29,7 @@ pub(super) fn fault(i: Instruction) -> Check
 {
     match i {
         Instruction::VfpPop { start, count } => {
-            if start as u32 + count as u32 <= 32 {
+            if start as u64 + count as u64 <= 32 {
                 Check::Fine
             } else {
                 Check::Fault(Refusal::Regs)

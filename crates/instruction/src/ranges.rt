@@ -40,7 +40,7 @@ fn to_sp(next: u32, b: u8) -> Decoded
     match b {
         0x9D => Decoded::Step(Instruction::Reserved, next),
         0x9F => Decoded::Step(Instruction::Reserved, next),
-        _ => Decoded::Step(Instruction::RegToSp(b % 16), next),
+        _ => Decoded::Step(Instruction::RegToSp((b % 16) as u32), next),
     }
 }
 
@@ -100,8 +100,8 @@ fn vfp_pop(words: &[u8], next: u32, more: u8) -> Decoded
     match crate::byte_at(words, next) {
         Byte::Is(c) => Decoded::Step(
             Instruction::VfpPop {
-                start: c / 16 + more,
-                count: c % 16 + 1,
+                start: (c / 16 + more) as u32,
+                count: (c % 16 + 1) as u32,
             },
             next + 1,
         ),

@@ -37,7 +37,7 @@ fn lower(core: &mut [u32; 16], n: u32) -> Outcome
 }
 
 // Sp from a register.
-fn from_register(core: &mut [u32; 16], n: u8) -> Outcome
+fn from_register(core: &mut [u32; 16], n: u32) -> Outcome
     requires { ⌜ n < 16 ⌝ }
     ensures { λ r. ⌜ (r ≡ Outcome.Next false) × (now (core .exit) ≡ fromRegister (now (core .entry)) n) ⌝ }
 {
@@ -82,8 +82,8 @@ fn pop_vfp(
     stack_address: Addr,
     core: &mut [u32; 16],
     vfp: &mut [u64; 32],
-    start: u8,
-    count: u8,
+    start: u32,
+    count: u32,
 ) -> Outcome
     requires { ⌜ length (now stack) ≤ stackMost ⌝ }
     ensures { λ r. ⌜ popVfp (now (stack .entry)) «stack_address» (registers (now (core .entry)) (now (vfp .entry))) start count ≡ effectOf r (now (core .exit)) (now (vfp .exit)) ⌝ }

@@ -17,17 +17,8 @@ enum-known-i-3 c = search needs
 enum-known-i-4 : tie.Need-enum-known-i-4
 enum-known-i-4 c = search needs
 
-cast-t10 : tie.Need-cast-t10
-cast-t10 c = search needs
-
 enum-known-i-5 : tie.Need-enum-known-i-5
 enum-known-i-5 c = search needs
-
-cast-t11 : tie.Need-cast-t11
-cast-t11 c = search needs
-
-cast-t12 : tie.Need-cast-t12
-cast-t12 c = search needs
 
 enum-told : tie.Need-enum-told
 enum-told c = search needs
@@ -82,10 +73,7 @@ instruction-row-spec =
     enum-known-i-2
     enum-known-i-3
     enum-known-i-4
-    cast-t10
     enum-known-i-5
-    cast-t11
-    cast-t12
     enum-told
     enum-told-2
     enum-told-3

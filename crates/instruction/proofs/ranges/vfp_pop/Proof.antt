@@ -14,11 +14,17 @@ enum-known-c c = search needs
 add-t9 : tie.Need-add-t9
 add-t9 c = search needs
 
-add-t11 : tie.Need-add-t11
-add-t11 c = search needs
+cast-t10 : tie.Need-cast-t10
+cast-t10 c = search needs
 
-add-t13 : tie.Need-add-t13
-add-t13 c = search needs
+add-t12 : tie.Need-add-t12
+add-t12 c = search needs
+
+cast-t13 : tie.Need-cast-t13
+cast-t13 c = search needs
+
+add-t15 : tie.Need-add-t15
+add-t15 c = search needs
 
 enum-told : tie.Need-enum-told
 enum-told c = search needs
@@ -48,8 +54,10 @@ vfp-pop-spec =
     byte-at-requires
     enum-known-c
     add-t9
-    add-t11
-    add-t13
+    cast-t10
+    add-t12
+    cast-t13
+    add-t15
     enum-told
     error-at-requires
     enum-known-r
