@@ -1,8 +1,6 @@
 // The search of the index: the entry whose function is at or below a counter, by halving.
 ghost use mathlib.Core.Path.{_≡_};
 ghost use Prim.Native.Nat.{_≤_};
-ghost use lib.Dec.{leb};
-ghost use Rattle.section.specs.Pick.{pick};
 ghost use Rattle.section.specs.Rule.{indexMost};
 ghost use Rattle.search.specs.Search.{halve, searchOf};
 use entry::FunctionRead;
@@ -20,15 +18,6 @@ pub struct Hit {
 pub enum Searched {
     Found(Hit),
     Refused(Refusal),
-}
-
-// `to` where a is at most b, else `from`. By a sum and not by a branch, which half of the time would be guessed wrong.
-fn moved(a: u32, b: u32, from: u32, to: u32) -> u32
-    requires { ⌜ from ≤ to ⌝ }
-    ensures { λ r. ⌜ r ≡ pick (leb a b) to from ⌝ }
-{
-    let up = (0x1_0000_0000 + b as u64 - a as u64) / 0x1_0000_0000;
-    (from as u64 + up * (to - from) as u64) as u32
 }
 
 // Halves 0 .. entries, the first function having been read.
@@ -49,10 +38,11 @@ fn halved(index: &[u8], index_address: Addr, counter: Addr, first: Addr, entries
             FunctionRead::At(f) => {
                 probes = probes + 1;
                 if f.0 <= counter.0 {
+                    low = middle;
                     function = f;
+                } else {
+                    high = middle;
                 }
-                low = moved(f.0, counter.0, low, middle);
-                high = moved(f.0, counter.0, middle, high);
             }
         }
     }

@@ -2,13 +2,9 @@
 use Rattle.search.proofs.Ways.{halve-done, halve-refused, halve-up, halve-down}
 use Rattle.search.specs.Search.{halve}
 use borrow.Author.Needs.{needs}
-use borrow.Author.Tests.{le-leb, lt-leb}
-use mathlib.Core.Logic.{⊎-elim}
 use native.Mathlib.Omega.{arith}
-use mathlib.Core.Path.{_≡_, refl, sym, ap, _∙_}
-use mathlib.Core.Bool.{Bool}
-use Rattle.section.specs.Pick.{pick}
-use Prim.Native.Nat.{_+_, _-_, _/_, _≤_}
+use mathlib.Core.Path.{_≡_, refl, sym, _∙_}
+use Prim.Native.Nat.{_+_, _-_, _≤_}
 use Rattle.search.proofs.halved.Statement.{statement}
 use Rattle.search.proofs.halved.Tie as tie
 
@@ -46,47 +42,23 @@ enum-known-f c = search needs
 add-probes : tie.Need-add-probes Inv-loop μ-loop
 add-probes c = search needs
 
-moved-requires : tie.Need-moved-requires Inv-loop μ-loop
-moved-requires c κs = omega (arith, c .before .before .before .before .before .before .before .loop-test, c .before .before .before .before .before .before .before .before .loop)
-
-moved-requires-2 : tie.Need-moved-requires-2 Inv-loop μ-loop
-moved-requires-2 c κs = omega (arith, c .before .before .before .before .before .before .before .before .loop-test, c .before .before .before .before .before .before .before .before .before .loop)
-
 loop-less : tie.Need-loop-less Inv-loop μ-loop
-loop-less c =
-    ⊎-elim
-    (λ w.
-    let l = c .before .before .before .before .before .before .before .before .before .before .loop in
-    let mid = (l .low + l .high) / 2 in
-    let m1 : c .before .moved .result ≡ mid = c .before .moved .ensures ∙ ap (λ (t : Bool). pick t mid (l .low)) (le-leb _ _ (w .0 .taken)) in
-    let m2 : c .moved2 .result ≡ l .high = c .moved2 .ensures ∙ ap (λ (t : Bool). pick t (l .high) mid) (le-leb _ _ (w .0 .taken)) in
-    omega (arith, m1, m2, c .before .before .before .before .before .before .before .before .before .loop-test .taken, l .inv))
-    (λ w.
-    let l = c .before .before .before .before .before .before .before .before .before .before .loop in
-    let mid = (l .low + l .high) / 2 in
-    let m1 : c .before .moved .result ≡ l .low = c .before .moved .ensures ∙ ap (λ (t : Bool). pick t mid (l .low)) (lt-leb _ _ (w .0 .left)) in
-    let m2 : c .moved2 .result ≡ mid = c .moved2 .ensures ∙ ap (λ (t : Bool). pick t (l .high) mid) (lt-leb _ _ (w .0 .left)) in
-    omega (arith, m1, m2, c .before .before .before .before .before .before .before .before .before .loop-test .taken, l .inv))
-    (c .before .before .if1 .came)
+loop-less c = search needs
 
 loop-again : tie.Need-loop-again Inv-loop μ-loop
 loop-again c =
-    ⊎-elim
-    (λ w.
-    let l = c .before .before .before .before .before .before .before .before .before .before .loop in
-    let mid = (l .low + l .high) / 2 in
-    let m1 : c .before .moved .result ≡ mid = c .before .moved .ensures ∙ ap (λ (t : Bool). pick t mid (l .low)) (le-leb _ _ (w .0 .taken)) in
-    let m2 : c .moved2 .result ≡ l .high = c .moved2 .ensures ∙ ap (λ (t : Bool). pick t (l .high) mid) (le-leb _ _ (w .0 .taken)) in
-    let f = c .before .before .before .before .before .before .before .before .function-at in
-    (omega (arith, m1, m2, c .before .before .before .before .before .before .before .before .before .loop-test .taken, l .inv), omega (arith, m1, m2, c .before .before .before .before .before .before .before .before .before .loop-test .taken, l .inv), omega (arith, m1, m2, c .before .before .before .before .before .before .before .before .before .loop-test .taken, l .inv), rw (m1, m2, w .1) (l .inv .3 ∙ halve-up _ _ _ _ _ _ _ (omega (arith, c .before .before .before .before .before .before .before .before .before .loop-test .taken)) _ (sym (f .ensures) ∙ c .before .before .before .before .before .before .f .given .1) (w .0 .taken))))
-    (λ w.
-    let l = c .before .before .before .before .before .before .before .before .before .before .loop in
-    let mid = (l .low + l .high) / 2 in
-    let m1 : c .before .moved .result ≡ l .low = c .before .moved .ensures ∙ ap (λ (t : Bool). pick t mid (l .low)) (lt-leb _ _ (w .0 .left)) in
-    let m2 : c .moved2 .result ≡ mid = c .moved2 .ensures ∙ ap (λ (t : Bool). pick t (l .high) mid) (lt-leb _ _ (w .0 .left)) in
-    let f = c .before .before .before .before .before .before .before .before .function-at in
-    (omega (arith, m1, m2, c .before .before .before .before .before .before .before .before .before .loop-test .taken, l .inv), omega (arith, m1, m2, c .before .before .before .before .before .before .before .before .before .loop-test .taken, l .inv), omega (arith, m1, m2, c .before .before .before .before .before .before .before .before .before .loop-test .taken, l .inv), rw (m1, m2, w .1) (l .inv .3 ∙ halve-down _ _ _ _ _ _ _ (omega (arith, c .before .before .before .before .before .before .before .before .before .loop-test .taken)) _ (sym (f .ensures) ∙ c .before .before .before .before .before .before .f .given .1) (w .0 .left))))
-    (c .before .before .if1 .came)
+    let v = c .before .before .before .before in
+    let f = v .before .before in
+    (omega arith, omega arith, omega arith, f .before .before .loop .inv .3 ∙ halve-up _ _ _ _ _ _ _ (omega arith) _ (sym (f .function-at .ensures) ∙ v .f .given .1) (omega arith))
+
+loop-less-2 : tie.Need-loop-less-2 Inv-loop μ-loop
+loop-less-2 c = search needs
+
+loop-again-2 : tie.Need-loop-again-2 Inv-loop μ-loop
+loop-again-2 c =
+    let v = c .before .before .before .before in
+    let f = v .before .before in
+    (omega arith, omega arith, omega arith, f .before .before .loop .inv .3 ∙ halve-down _ _ _ _ _ _ _ (omega arith) _ (sym (f .function-at .ensures) ∙ v .f .given .1) (omega arith))
 
 returns-2 : tie.Need-returns-2 Inv-loop μ-loop
 returns-2 c = sym (c .before .loop .inv .3 ∙ halve-done _ _ _ _ _ _ _ (omega arith))
@@ -105,8 +77,8 @@ halved-spec =
     returns
     enum-known-f
     add-probes
-    moved-requires
-    moved-requires-2
     loop-less
     loop-again
+    loop-less-2
+    loop-again-2
     returns-2)
