@@ -1,6 +1,6 @@
 -- A step's answer, told by its arrival and count. Assumes nothing.
 use Prim.Native.Nat.{ℕ}
-use mathlib.Core.Path.{_≡_, refl, sym, ap, subst, _∙_}
+use mathlib.Core.Path.{_≡_, refl, sym, subst}
 use mathlib.Core.List.{List}
 use Rattle.section.specs.Answer.{Told}
 use Rattle.step.specs.Answers.{arrivalAnswer}

@@ -1,20 +1,18 @@
 -- An image that the audit passes keeps the promise: at every counter, and from every register set and stack. Assumes nothing.
-use Prim.Native.Nat.{ℕ, suc, _+_, _≤_, _<_, _^_}
-use mathlib.Core.Path.{_≡_, refl, sym, ap, _∙_}
+use Prim.Native.Nat.{ℕ, _+_, _<_}
+use mathlib.Core.Path.{_≡_, refl, sym, _∙_}
 use mathlib.Core.Logic.{_↔_}
 use mathlib.Core.List.{List}
 use native.Mathlib.Numerals.{add-one}
 use lib.ListN.{length}
 use Rattle.section.specs.Rule.{stackMost, stackRule, Section}
 use Rattle.section.specs.declared.Addr.{Addr}
-use Rattle.section.specs.declared.Off.{Off}
 use Rattle.section.specs.declared.Refusal.{Refusal}
 use Rattle.section.specs.declared.Check.{Check}
 use Rattle.section.proofs.Rules.{section-exact}
 use Rattle.instruction.proofs.Program.{instructions-exact}
-use Rattle.entry.specs.declared.Span.{Span}
 use Rattle.entry.proofs.Laws.{function-sound}
-use Rattle.lsda.specs.Sites.{sitesFrom, callSiteOf, CleanSites, Sited}
+use Rattle.lsda.specs.Sites.{sitesFrom, callSiteOf, Sited}
 use Rattle.lsda.specs.declared.SiteFound.{SiteFound}
 use Rattle.lsda.proofs.Laws.{sites-exact, clean-sites}
 use Rattle.image.specs.Image.{Image, countOf, sectionsOf, entryAt, wordsOf, languageOf}
@@ -22,18 +20,16 @@ use Rattle.image.specs.Read.{Names}
 use Rattle.image.specs.declared.Found.{Found}
 use Rattle.image.proofs.Laws.{sections-exact, entry-led, led-names}
 use Rattle.search.specs.Rising as rising
-use Rattle.search.specs.Search.{searchOf, onSearched, hit}
-use Rattle.search.specs.declared.Searched.{Searched}
+use Rattle.search.specs.Search.{searchOf, hit}
 use Rattle.search.proofs.Laws.{answers}
 use Rattle.lookup.specs.Answers.{lookedAnswer}
 use Rattle.lookup.specs.Lookup.{sited, lookedAt, lookupOf}
 use Rattle.lookup.specs.declared.Looked.{Looked}
 use Rattle.lookup.proofs.Laws.{lookup-refused, lookup-hit, looked-cannot, looked-compact, looked-generic}
-use Rattle.step.specs.Answers.{stepAnswer, arrivalAnswer}
+use Rattle.step.specs.Answers.{arrivalAnswer}
 use Rattle.step.specs.Step.{steppedBy, counterOf, stepOf, Arrives}
 use Rattle.step.specs.declared.Arrival.{Arrival}
 use Rattle.step.specs.declared.Registers.{Registers}
-use Rattle.step.specs.declared.Stepped.{Stepped}
 use Rattle.step.proofs.Steps.{step-refused, step-hit, cannot-arrives, compact-arrives, generic-arrives}
 use Rattle.audit.specs.Audit.{auditOf}
 use Rattle.audit.specs.Sound.{SoundFound, functionIn, Sound}

@@ -1,23 +1,20 @@
 -- How the audit goes on: one law for each way through an entry, and for each turn of the loop over them. Assumes nothing.
-use Prim.Native.Nat.{ℕ, zero, suc, _+_, _-_, _≤_, _<_}
+use Prim.Native.Nat.{ℕ, suc, _+_, _-_, _≤_, _<_}
 use mathlib.Core.Path.{_≡_, refl, sym, ap, _∙_}
 use mathlib.Core.List.{List}
-use native.Mathlib.Omega.{arith}
 use native.Mathlib.Numerals.{add-one}
-use lib.ListN.{length}
 use borrow.Author.Tests.{le-leb, lt-leb}
 use Rattle.section.specs.declared.Addr.{Addr}
 use Rattle.section.specs.declared.Off.{Off}
 use Rattle.section.specs.declared.Refusal.{Refusal}
 use Rattle.section.specs.declared.Check.{Check}
-use Rattle.section.specs.Check.{andThen}
 use Rattle.instruction.specs.Program.{auditInstructionsOf}
-use Rattle.entry.specs.Index.{functionOf, functionAt}
+use Rattle.entry.specs.Index.{functionAt}
 use Rattle.entry.specs.declared.FunctionRead.{FunctionRead}
 use Rattle.entry.specs.declared.Span.{Span}
 use Rattle.entry.proofs.Laws.{function-read}
 use Rattle.lsda.specs.Sites.{auditSitesOf}
-use Rattle.image.specs.Image.{Image, countOf, sectionsOf, entryAt, ledBy}
+use Rattle.image.specs.Image.{Image, countOf, sectionsOf, ledBy}
 use Rattle.entry.specs.Parts.{chosen, wordsIn, languageIn}
 use Rattle.image.specs.declared.Found.{Found}
 use Rattle.image.proofs.Laws.{entry-is-led}

@@ -3,12 +3,10 @@ use Prim.Native.Nat.{ℕ, _^_, _<_}
 use mathlib.Core.Path.{_≡_}
 use mathlib.Core.List.{List}
 use lib.ListN.{length}
-use Rattle.section.specs.Answer.{Answer}
 use Rattle.section.specs.Rule.{stackMost, Section}
 use Rattle.section.specs.declared.Addr.{Addr}
 use Rattle.section.specs.declared.Off.{Off}
 use Rattle.section.specs.declared.Refusal.{Refusal}
-use Rattle.entry.specs.declared.Held.{Held}
 use Rattle.entry.specs.declared.Span.{Span}
 use Rattle.lsda.specs.Header.{headerOf}
 use Rattle.lsda.specs.Site.{resolved}

@@ -1,13 +1,13 @@
 -- Laws of reading a bundle: one for each way to an answer. Assumes nothing.
 use Prim.Native.Nat.{ℕ, _+_, _*_, _/_, _≤_, _<_}
-use mathlib.Core.Path.{_≡_, refl, sym, _∙_}
+use mathlib.Core.Path.{_≡_, sym}
 use mathlib.Core.List.{List}
 use native.Mathlib.Omega.{arith}
 use lib.ListN.{length}
 use lib.Dec.{leb}
 use borrow.Author.Tests.{le-leb, lt-leb, leb-true, leb-false, eq-eqb, ne-eqb}
 use Rattle.section.specs.Place.{addr}
-use Rattle.section.specs.Word.{word, wordAt}
+use Rattle.section.specs.Word.{wordAt}
 use Rattle.section.specs.declared.Addr.{Addr}
 use Rattle.section.specs.declared.Refusal.{Refusal}
 use Rattle.section.specs.declared.Word.the-variants.{At, Short}

@@ -1,6 +1,5 @@
 -- The paper's number and values of each answer.
-use Prim.Native.Nat.{ℕ}
-use mathlib.Core.List.{List, [], _∷_}
+use mathlib.Core.List.{[], _∷_}
 use Rattle.section.specs.Answer.{Answer, given, refused}
 use Rattle.bundle.specs.declared.BundleRead.{BundleRead}
 

@@ -2,7 +2,6 @@
 use Prim.Native.Nat.{ℕ, _/_}
 use mathlib.Core.List.{List}
 use Rattle.section.specs.View.{bytesOf}
-use Rattle.section.specs.declared.Refusal.{Refusal}
 use Rattle.image.specs.Image.{Image, image}
 use Rattle.audit.specs.Audit.{auditOf}
 use Rattle.audit.specs.declared.Verdict.{Verdict}

@@ -1,8 +1,6 @@
 -- What reading a bundle can give: what has no case here cannot happen.
 use Prim.Native.Nat.{ℕ, _+_}
 use mathlib.Core.Path.{_≡_}
-use mathlib.Core.List.{List}
-use lib.ListN.{length}
 use Rattle.section.specs.Rule.{tableMost, Section, IndexSection}
 use Rattle.section.specs.declared.Refusal.{Refusal}
 use Rattle.bundle.specs.declared.Bundle.{Bundle}

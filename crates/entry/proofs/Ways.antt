@@ -12,7 +12,6 @@ use Rattle.section.specs.declared.Addr.{Addr}
 use Rattle.section.specs.declared.Off.{Off}
 use Rattle.section.specs.declared.Refusal.{Refusal}
 use Rattle.section.specs.declared.Word.the-variants.{At, Short}
-use Rattle.section.proofs.Words.{word-in}
 use Rattle.entry.specs.Index.{functionOf, functionIn, contentOf}
 use Rattle.entry.specs.Table.{entryOf, fitting, selectorOf, compactOf, genericOf, entryBy}
 use Rattle.entry.specs.declared.Personality.{Personality}
@@ -20,10 +19,6 @@ use Rattle.entry.specs.declared.Held.{Held}
 use Rattle.entry.specs.declared.Content.{Content}
 use Rattle.entry.specs.declared.FunctionRead.{FunctionRead}
 use Rattle.entry.specs.declared.TableRead.{TableRead}
-
--- a word that is all there is not short
-pub never-short : {X : Type 0} (xs : List ℕ) (o : ℕ) → o + 4 ≤ length xs → wordAt xs o ≡ Short → X
-never-short xs o h e = let k = word-in xs o h in let z : _≡_ {A = ℕ} 0 1 = cc in absurd (omega arith)
 
 -- ---- the function word
 module _ (xs : List ℕ) (a : Addr) (k : ℕ) where

@@ -15,7 +15,6 @@ use section::Addr;
 use section::Check;
 use section::Off;
 use section::Refusal;
-use section::Word;
 
 // Whether an index of `len` bytes may stand there and has an entry of this number.
 pub(crate) fn numbered(len: usize, index_address: Addr, number: u32) -> Check
@@ -38,10 +37,8 @@ fn whole_word(index: &[u8], at: Off) -> u32
     requires { ⌜ at .0 + 4 ≤ length (now index) ⌝ }
     ensures { λ r. ⌜ r ≡ word (now (index .entry)) (at .0) ⌝ }
 {
-    match section::word_at(index, at) {
-        Word::At(w) => w,
-        Word::Short => 0,
-    }
+    let o = at.0 as usize;
+    section::from_le(index[o], index[o + 1], index[o + 2], index[o + 3])
 }
 
 // The function of an entry that is there.

@@ -1,7 +1,6 @@
 -- How `endFrom` goes on at the byte k, with 5 - k bytes left to look at: a law for each way out of a loop's turn, and one for the next turn.
 -- Assumes nothing.
 use Prim.Native.Nat.{ℕ, zero, suc, _+_, _-_, _<_, _≤_}
-use mathlib.Core.Bool.{Bool, true, false}
 use mathlib.Core.Path.{_≡_, refl}
 use native.Mathlib.Omega.{arith}
 use lib.Dec.{ltb}

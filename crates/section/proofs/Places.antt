@@ -3,15 +3,14 @@ use Prim.Native.Nat.{ℕ, _+_, _-_, _%_, _^_, _≤_, _<_}
 use mathlib.Core.Path.{_≡_, refl, ap, _∙_}
 use mathlib.Core.Bool.{Bool, true, false}
 use native.Mathlib.Omega.{arith}
-use lib.Dec.{ltb, leb}
+use lib.Dec.{ltb}
 use borrow.Author.Tests.{lt-ltb, le-ltb, le-leb, lt-leb, ltb-true, ltb-false}
 use Rattle.section.specs.Pick.{pick}
 use Rattle.section.specs.Place.{addr, off, addressOf, offsetOf}
 use Rattle.section.specs.Sum.{plusOf}
-use Rattle.section.specs.Prel31.{Distance, signed31, moved, prel31Of, Ranged}
+use Rattle.section.specs.Prel31.{Distance, signed31, prel31Of, Ranged}
 use Rattle.section.specs.declared.Addr.{Addr}
 use Rattle.section.specs.declared.Off.{Off}
-use Rattle.section.specs.declared.Place.{Place}
 use Rattle.section.specs.declared.Place.the-variants.{At, Outside}
 use Rattle.section.specs.declared.Summed.{Summed}
 use Rattle.section.proofs.Picks.{by-test}
@@ -64,24 +63,23 @@ signed31-ranged n h = go (ltb n (2 ^ 30)) refl
     go true e = Ranged.up (ltb-true _ _ e)
     go false e = let g = ltb-false n (2 ^ 30) e in Ranged.down {n = 2 ^ 31 - n} (omega arith) (omega arith)
 
-module _ (w : ℕ) (p : Addr) where
-  pub prel31-up : w % 2 ^ 31 < 2 ^ 30 → prel31Of w p ≡ addr ((p .0 + w % 2 ^ 31) % 2 ^ 32)
-  unfolding prel31Of
-  prel31-up h = simp (lt-ltb (w % 2 ^ 31) (2 ^ 30) h)
-
-  -- 2 ^ 31 less, modulo 2 ^ 32, is 2 ^ 31 more
-  pub prel31-down : 2 ^ 30 ≤ w % 2 ^ 31 → prel31Of w p ≡ addr ((p .0 + (w % 2 ^ 31 + 2 ^ 31)) % 2 ^ 32)
-  unfolding prel31Of
-  prel31-down h =
-      let e : 2 ^ 32 - (2 ^ 31 - w % 2 ^ 31) ≡ w % 2 ^ 31 + 2 ^ 31 = omega arith in
-      simp (le-ltb (w % 2 ^ 31) (2 ^ 30) h, e)
+-- raised by 2 ^ 30 modulo 2 ^ 31 and lowered again modulo 2 ^ 32, the 31 bits are the signed distance
+pub prel31-raised : (w : ℕ) (p : Addr) → prel31Of w p ≡ addr ((p .0 + ((w % 2 ^ 31 + 2 ^ 30) % 2 ^ 31 + (2 ^ 32 - 2 ^ 30)) % 2 ^ 32) % 2 ^ 32)
+unfolding prel31Of
+prel31-raised w p =
+    by-test (ltb (w % 2 ^ 31) (2 ^ 30))
+    (λ t.
+    let h = ltb-true (w % 2 ^ 31) (2 ^ 30) t in
+    let e : ((w % 2 ^ 31 + 2 ^ 30) % 2 ^ 31 + (2 ^ 32 - 2 ^ 30)) % 2 ^ 32 ≡ w % 2 ^ 31 = omega arith in
+    rw (t, e) refl)
+    (λ t.
+    let h = ltb-false (w % 2 ^ 31) (2 ^ 30) t in
+    let e : ((w % 2 ^ 31 + 2 ^ 30) % 2 ^ 31 + (2 ^ 32 - 2 ^ 30)) % 2 ^ 32 ≡ 2 ^ 32 - (2 ^ 31 - w % 2 ^ 31) = omega arith in
+    rw (t, e) refl)
 
 -- a target is an address
 pub prel31-address : (w : ℕ) (p : Addr) → prel31Of w p .0 < 2 ^ 32
-prel31-address w p =
-    by-test (ltb (w % 2 ^ 31) (2 ^ 30))
-    (λ t. rw (prel31-up w p (ltb-true _ _ t)) (omega arith))
-    (λ t. rw (prel31-down w p (ltb-false _ _ t)) (omega arith))
+prel31-address w p = rw (prel31-raised w p) (omega arith)
 
 -- the paper's two targets
 pub prel31-cases : (prel31Of 0x7FFFFFFF (addr 0x1000) ≡ addr 0x0FFF) × (prel31Of 0x40000000 (addr 0x40000000) ≡ addr 0)

@@ -1,10 +1,10 @@
 -- The section rule passes exactly the sections that it describes, and its only fault is 1. Assumes nothing.
 use Prim.Native.Nat.{ℕ, _+_, _%_, _^_, _≤_, _<_}
-use mathlib.Core.Path.{_≡_, refl}
+use mathlib.Core.Path.{_≡_}
 use mathlib.Core.Bool.{Bool, true, false}
 use mathlib.Core.Logic.{_↔_}
 use lib.Dec.{leb, eqb}
-use borrow.Author.Tests.{le-leb, lt-leb, eq-eqb, ne-eqb}
+use borrow.Author.Tests.{le-leb, lt-leb}
 use Rattle.section.specs.Check.{andThen, need}
 use Rattle.section.specs.Rule.{indexMost, ruleOf, indexRule, Section, IndexSection}
 use Rattle.section.specs.declared.Addr.{Addr}

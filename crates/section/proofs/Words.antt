@@ -1,16 +1,16 @@
 -- Laws of little-endian words: what a crate above cites, so that it never unfolds `wordAt`. Assumes nothing.
-use mathlib.Core.Path.{_≡_, refl}
-use Prim.Native.Nat.{ℕ, _+_, _*_, _%_, _^_, _≤_, _<_}
+use mathlib.Core.Path.{_≡_}
+use mir.Val.{Fits}
+use mir.Syntax.{w8}
+use Prim.Native.Nat.{ℕ, _+_, _≤_, _<_}
 use mathlib.Core.List.{List}
 use lib.ListN.{length, getD}
-use lib.Dec.{leb, lit<}
+use lib.Dec.{leb}
 use native.Mathlib.Nat.{add-zero}
 use native.Mathlib.Omega.{arith}
 use borrow.Author.Tests.{le-leb, lt-leb, leb-true, leb-false}
-use Rattle.section.specs.Digits.{bytesAt, digits}
 use Rattle.section.specs.Word.{le32, word, wordAt}
 use Rattle.section.specs.declared.Word.the-variants.{At, Short}
-use Rattle.section.proofs.Digits.{below}
 use Rattle.section.proofs.Picks.{by-test}
 
 module _ (xs : List ℕ) (o : ℕ) where
@@ -36,12 +36,7 @@ module _ (xs : List ℕ) (o : ℕ) where
       (λ t. let h = word-in (leb-true _ _ t) in let z : _≡_ {A = ℕ} 0 1 = cc in absurd (omega arith))
       (λ f. leb-false _ _ f)
 
-  pub word-below : word xs o < 2 ^ 32
+  -- the four bytes there, each below 256, are the word's digits
+  pub word-bytes : ((i : ℕ) → Fits w8 (getD xs i 0)) → le32 (getD xs o 0) (getD xs (o + 1) 0) (getD xs (o + 2) 0) (getD xs (o + 3) 0) ≡ word xs o
   unfolding word
-  word-below = below 256 (lit< tt) (bytesAt xs o) 4
-
-  -- four bytes, each below 256, are the word's digits
-  pub word-bytes : {a b c d : ℕ} → a ≡ getD xs o 0 → b ≡ getD xs (o + 1) 0 → c ≡ getD xs (o + 2) 0 → d ≡ getD xs (o + 3) 0
-      → a < 256 → b < 256 → c < 256 → d < 256 → le32 a b c d ≡ word xs o
-  unfolding word
-  word-bytes {a} {b} {c} {d} p q r s ha hb hc hd = rw (add-zero o, ← p, ← q, ← r, ← s) (omega arith)
+  word-bytes k = rw (add-zero o) (omega (arith, k o, k (o + 1), k (o + 2), k (o + 3)))

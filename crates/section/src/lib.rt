@@ -2,7 +2,7 @@
 ghost use mathlib.Core.Path.{_≡_};
 ghost use lib.ListN.{length};
 ghost use Rattle.section.specs.Number.{number};
-ghost use Rattle.section.specs.Rule.{indexMost, tableMost, stackMost, ruleOf, indexRule, tableRule, stackRule};
+ghost use Rattle.section.specs.Rule.{ruleOf, indexRule, tableRule, stackRule};
 ghost use Rattle.section.specs.Place.{addressOf, offsetOf};
 ghost use Rattle.section.specs.Prel31.{prel31Of};
 ghost use Rattle.section.specs.Sum.{plusOf};
@@ -155,12 +155,10 @@ pub fn offset_of(section: Addr, len: usize, a: Addr) -> Place
 pub fn prel31(word: u32, place: Addr) -> Addr
     ensures { λ r. ⌜ r ≡ prel31Of word place ⌝ }
 {
-    let low = word % 0x8000_0000;
-    if low < 0x4000_0000 {
-        Addr(std::num::wrapping_add_u32(place.0, low))
-    } else {
-        Addr(std::num::wrapping_add_u32(place.0, low + 0x8000_0000))
-    }
+    // Raised by 2^30 and lowered again, what was at 2^30 or above is negative.
+    let raised = (word % 0x8000_0000 + 0x4000_0000) % 0x8000_0000;
+    let distance = std::num::wrapping_sub_u32(raised, 0x4000_0000);
+    Addr(std::num::wrapping_add_u32(place.0, distance))
 }
 
 // An address that is moved up, or that it passes 0xFFFFFFFF.
@@ -188,7 +186,7 @@ pub enum Word {
 }
 
 // Four bytes as a number, the first the lowest.
-fn from_le(a: u8, b: u8, c: u8, d: u8) -> u32
+pub fn from_le(a: u8, b: u8, c: u8, d: u8) -> u32
     ensures { λ r. ⌜ r ≡ le32 a b c d ⌝ }
 {
     (a as u32) + 0x100 * (b as u32) + 0x1_0000 * (c as u32) + 0x100_0000 * (d as u32)

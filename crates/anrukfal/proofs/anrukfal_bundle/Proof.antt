@@ -3,10 +3,6 @@ use mathlib.Core.Path.{refl, sym, _∙_}
 use borrow.Author.Needs.{needs}
 use Rattle.anrukfal.proofs.anrukfal_bundle.Statement.{statement}
 use Rattle.anrukfal.proofs.anrukfal_bundle.Tie as tie
-use Rattle.anrukfal.proofs.anrukfal_bundle.Reads as reads
-use Rattle.anrukfal.proofs.anrukfal_bundle.Lts as lts
-use Rattle.bundle.proofs.read_bundle.Reads as read-bundle-reads
-use Rattle.section.proofs.Refusal.number.Reads as number-reads
 
 read-bundle-requires : tie.Need-read-bundle-requires
 read-bundle-requires c κs = search needs

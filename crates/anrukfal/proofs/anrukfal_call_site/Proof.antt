@@ -3,11 +3,6 @@ use mathlib.Core.Path.{refl, sym, _∙_}
 use borrow.Author.Needs.{needs}
 use Rattle.anrukfal.proofs.anrukfal_call_site.Statement.{statement}
 use Rattle.anrukfal.proofs.anrukfal_call_site.Tie as tie
-use Rattle.anrukfal.proofs.anrukfal_call_site.Reads as reads
-use Rattle.anrukfal.proofs.anrukfal_call_site.Lts as lts
-use Rattle.anrukfal.proofs.rows.site_row.Reads as site-row-reads
-use Rattle.lsda.proofs.call_site.Reads as call-site-reads
-use Rattle.section.proofs.Refusal.number.Reads as number-reads
 
 call-site-requires : tie.Need-call-site-requires
 call-site-requires c κs = search needs

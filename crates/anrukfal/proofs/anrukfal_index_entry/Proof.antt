@@ -3,11 +3,6 @@ use mathlib.Core.Path.{refl, sym, _∙_}
 use borrow.Author.Needs.{needs}
 use Rattle.anrukfal.proofs.anrukfal_index_entry.Statement.{statement}
 use Rattle.anrukfal.proofs.anrukfal_index_entry.Tie as tie
-use Rattle.anrukfal.proofs.anrukfal_index_entry.Reads as reads
-use Rattle.anrukfal.proofs.anrukfal_index_entry.Lts as lts
-use Rattle.anrukfal.proofs.rows.index_row.Reads as index-row-reads
-use Rattle.entry.proofs.index_entry.Reads as index-entry-reads
-use Rattle.section.proofs.Refusal.number.Reads as number-reads
 
 index-entry-requires : tie.Need-index-entry-requires
 index-entry-requires c κs = search needs

@@ -3,11 +3,6 @@ use mathlib.Core.Path.{refl, sym, _∙_}
 use borrow.Author.Needs.{needs}
 use Rattle.anrukfal.proofs.anrukfal_instruction.Statement.{statement}
 use Rattle.anrukfal.proofs.anrukfal_instruction.Tie as tie
-use Rattle.anrukfal.proofs.anrukfal_instruction.Reads as reads
-use Rattle.anrukfal.proofs.anrukfal_instruction.Lts as lts
-use Rattle.anrukfal.proofs.rows.instruction_row.Reads as instruction-row-reads
-use Rattle.instruction.proofs.decode.Reads as decode-reads
-use Rattle.section.proofs.Refusal.number.Reads as number-reads
 
 decode-requires : tie.Need-decode-requires
 decode-requires c κs = search needs

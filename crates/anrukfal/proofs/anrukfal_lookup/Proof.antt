@@ -3,12 +3,6 @@ use mathlib.Core.Path.{refl, sym, _∙_}
 use borrow.Author.Needs.{needs}
 use Rattle.anrukfal.proofs.anrukfal_lookup.Statement.{statement}
 use Rattle.anrukfal.proofs.anrukfal_lookup.Tie as tie
-use Rattle.anrukfal.proofs.anrukfal_lookup.Reads as reads
-use Rattle.anrukfal.proofs.anrukfal_lookup.Lts as lts
-use Rattle.anrukfal.proofs.rows.compact_kind.Reads as compact-kind-reads
-use Rattle.anrukfal.proofs.rows.generic_row.Reads as generic-row-reads
-use Rattle.lookup.proofs.lookup.Reads as lookup-reads
-use Rattle.section.proofs.Refusal.number.Reads as number-reads
 
 lookup-requires : tie.Need-lookup-requires
 lookup-requires c κs = search needs

@@ -3,10 +3,6 @@ use mathlib.Core.Path.{refl, sym, _∙_}
 use borrow.Author.Needs.{needs}
 use Rattle.anrukfal.proofs.anrukfal_pointer.Statement.{statement}
 use Rattle.anrukfal.proofs.anrukfal_pointer.Tie as tie
-use Rattle.anrukfal.proofs.anrukfal_pointer.Reads as reads
-use Rattle.anrukfal.proofs.anrukfal_pointer.Lts as lts
-use Rattle.pointer.proofs.pointer.Reads as pointer-reads
-use Rattle.section.proofs.Refusal.number.Reads as number-reads
 
 pointer-requires : tie.Need-pointer-requires
 pointer-requires c κs = search needs

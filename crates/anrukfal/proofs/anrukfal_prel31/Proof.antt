@@ -4,9 +4,6 @@ use mathlib.Core.Path.{ap}
 use borrow.Author.Needs.{needs}
 use Rattle.anrukfal.proofs.anrukfal_prel31.Statement.{statement}
 use Rattle.anrukfal.proofs.anrukfal_prel31.Tie as tie
-use Rattle.anrukfal.proofs.anrukfal_prel31.Reads as reads
-use Rattle.anrukfal.proofs.anrukfal_prel31.Lts as lts
-use Rattle.section.proofs.prel31.Reads as prel31-reads
 
 prel31-requires : tie.Need-prel31-requires
 prel31-requires c κs = search needs

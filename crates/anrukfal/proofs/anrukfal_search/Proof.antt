@@ -3,10 +3,6 @@ use mathlib.Core.Path.{refl, sym, _∙_}
 use borrow.Author.Needs.{needs}
 use Rattle.anrukfal.proofs.anrukfal_search.Statement.{statement}
 use Rattle.anrukfal.proofs.anrukfal_search.Tie as tie
-use Rattle.anrukfal.proofs.anrukfal_search.Reads as reads
-use Rattle.anrukfal.proofs.anrukfal_search.Lts as lts
-use Rattle.search.proofs.search.Reads as search-reads
-use Rattle.section.proofs.Refusal.number.Reads as number-reads
 
 search-requires : tie.Need-search-requires
 search-requires c κs = search needs

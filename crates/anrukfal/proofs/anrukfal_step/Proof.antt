@@ -1,13 +1,9 @@
 -- Each arm writes the row of its arrival; the registers come out as the step has them. Assumes nothing.
 use Rattle.anrukfal.proofs.Laws.{step-told}
-use mathlib.Core.Path.{refl, sym, _∙_}
+use mathlib.Core.Path.{refl}
 use borrow.Author.Needs.{needs}
 use Rattle.anrukfal.proofs.anrukfal_step.Statement.{statement}
 use Rattle.anrukfal.proofs.anrukfal_step.Tie as tie
-use Rattle.anrukfal.proofs.anrukfal_step.Reads as reads
-use Rattle.anrukfal.proofs.anrukfal_step.Lts as lts
-use Rattle.section.proofs.Refusal.number.Reads as number-reads
-use Rattle.step.proofs.step.Reads as step-reads
 
 step-requires : tie.Need-step-requires
 step-requires c κs = search needs

@@ -3,11 +3,6 @@ use mathlib.Core.Path.{refl, sym, _∙_}
 use borrow.Author.Needs.{needs}
 use Rattle.anrukfal.proofs.anrukfal_table_entry.Statement.{statement}
 use Rattle.anrukfal.proofs.anrukfal_table_entry.Tie as tie
-use Rattle.anrukfal.proofs.anrukfal_table_entry.Reads as reads
-use Rattle.anrukfal.proofs.anrukfal_table_entry.Lts as lts
-use Rattle.anrukfal.proofs.rows.table_row.Reads as table-row-reads
-use Rattle.entry.proofs.table_entry.Reads as table-entry-reads
-use Rattle.section.proofs.Refusal.number.Reads as number-reads
 
 table-entry-requires : tie.Need-table-entry-requires
 table-entry-requires c κs = search needs

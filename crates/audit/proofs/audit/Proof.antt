@@ -6,10 +6,6 @@ use mathlib.Core.Path.{sym, _∙_}
 use borrow.Author.Needs.{needs}
 use Rattle.audit.proofs.audit.Statement.{statement}
 use Rattle.audit.proofs.audit.Tie as tie
-use Rattle.audit.proofs.audit.Reads as reads
-use Rattle.audit.proofs.audit.Lts as lts
-use Rattle.audit.proofs.entries.Reads as entries-reads
-use Rattle.image.proofs.sections.Reads as sections-reads
 
 sections-requires : tie.Need-sections-requires
 sections-requires c κs = search needs

@@ -5,10 +5,6 @@ use native.Mathlib.Omega.{arith}
 use borrow.Author.Needs.{needs}
 use Rattle.audit.proofs.check_entry.Statement.{statement}
 use Rattle.audit.proofs.check_entry.Tie as tie
-use Rattle.audit.proofs.check_entry.Reads as reads
-use Rattle.audit.proofs.check_entry.Lts as lts
-use Rattle.audit.proofs.check_found.Reads as check-found-reads
-use Rattle.image.proofs.led_by.Reads as led-by-reads
 
 cast-if1 : tie.Need-cast-if1
 cast-if1 c = search needs

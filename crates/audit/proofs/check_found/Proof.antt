@@ -2,16 +2,9 @@
 use Rattle.audit.proofs.Turns.{found-compact, found-faulty, found-sites}
 use Rattle.audit.specs.Audit.{foundCheck}
 use Rattle.entry.proofs.Laws.{words-are}
-use mathlib.Core.Path.{sym, ap, _∙_}
 use borrow.Author.Needs.{needs}
 use Rattle.audit.proofs.check_found.Statement.{statement}
 use Rattle.audit.proofs.check_found.Tie as tie
-use Rattle.audit.proofs.check_found.Reads as reads
-use Rattle.audit.proofs.check_found.Lts as lts
-use Rattle.entry.proofs.instruction_words.Reads as instruction-words-reads
-use Rattle.instruction.proofs.audit_instructions.Reads as audit-instructions-reads
-use Rattle.lsda.proofs.audit_sites.Reads as audit-sites-reads
-use Rattle.section.proofs.suffix.Reads as suffix-reads
 
 enum-told : tie.Need-enum-told
 enum-told c = search needs

@@ -7,13 +7,9 @@ use lib.ListN.{length}
 use borrow.Author.Needs.{needs}
 use native.Mathlib.Omega.{arith}
 use mathlib.Core.Path.{_≡_, refl, sym, _∙_}
-use Prim.Native.Nat.{ℕ, suc, _+_, _-_, _/_, _≤_, _<_}
+use Prim.Native.Nat.{_+_, _-_, _/_, _≤_}
 use Rattle.audit.proofs.entries.Statement.{statement}
 use Rattle.audit.proofs.entries.Tie as tie
-use Rattle.audit.proofs.entries.Reads as reads
-use Rattle.audit.proofs.entries.Lts as lts
-use Rattle.audit.proofs.check_entry.Reads as check-entry-reads
-use Rattle.entry.proofs.function_at.Reads as function-at-reads
 
 abbrev Inv-loop : tie.InvT-loop
 Inv-loop index index-address table table-address count number₀ floor₀ number floor = (number ≤ count) × (count ≡ length index / 8) × (floor ≡ floorOf (image index index-address table table-address) number) × (firstFault (entryCheck (image index index-address table table-address)) (countOf (image index index-address table table-address)) 0 ≡ firstFault (entryCheck (image index index-address table table-address)) (count - number) number)

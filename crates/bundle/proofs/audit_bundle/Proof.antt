@@ -6,12 +6,6 @@ use mathlib.Core.Path.{sym, _∙_}
 use borrow.Author.Needs.{needs}
 use Rattle.bundle.proofs.audit_bundle.Statement.{statement}
 use Rattle.bundle.proofs.audit_bundle.Tie as tie
-use Rattle.bundle.proofs.audit_bundle.Reads as reads
-use Rattle.bundle.proofs.audit_bundle.Lts as lts
-use Rattle.audit.proofs.audit.Reads as audit-reads
-use Rattle.bundle.proofs.read_bundle.Reads as read-bundle-reads
-use Rattle.bundle.proofs.reported.Reads as reported-reads
-use Rattle.section.proofs.part.Reads as part-reads
 
 read-bundle-requires : tie.Need-read-bundle-requires
 read-bundle-requires c κs = search needs

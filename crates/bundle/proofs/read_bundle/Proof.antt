@@ -6,10 +6,6 @@ use Rattle.bundle.proofs.Laws.{bundle-short, bundle-first, bundle-early
 use borrow.Author.Needs.{needs}
 use Rattle.bundle.proofs.read_bundle.Statement.{statement}
 use Rattle.bundle.proofs.read_bundle.Tie as tie
-use Rattle.bundle.proofs.read_bundle.Reads as reads
-use Rattle.bundle.proofs.read_bundle.Lts as lts
-use Rattle.bundle.proofs.read.from_entries.Reads as from-entries-reads
-use Rattle.section.proofs.word_at.Reads as word-at-reads
 
 word-at-requires : tie.Need-word-at-requires
 word-at-requires c κs = search needs

@@ -2,8 +2,6 @@
 use borrow.Author.Needs.{needs}
 use Rattle.bundle.proofs.reported.Statement.{statement}
 use Rattle.bundle.proofs.reported.Tie as tie
-use Rattle.bundle.proofs.reported.Reads as reads
-use Rattle.bundle.proofs.reported.Lts as lts
 
 enum-told : tie.Need-enum-told
 enum-told c = search needs

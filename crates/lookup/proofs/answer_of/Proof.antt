@@ -1,14 +1,9 @@
 -- Each arm is told what was found; the language data of a generic entry is the table from its offset on. Assumes nothing.
 use Rattle.lookup.proofs.Laws.{looked-generic}
-use Rattle.lookup.specs.Lookup.{lookedAt, sited}
-use mathlib.Core.Path.{sym, ap, _∙_}
+use Rattle.lookup.specs.Lookup.{lookedAt}
 use borrow.Author.Needs.{needs}
 use Rattle.lookup.proofs.answer_of.Statement.{statement}
 use Rattle.lookup.proofs.answer_of.Tie as tie
-use Rattle.lookup.proofs.answer_of.Reads as reads
-use Rattle.lookup.proofs.answer_of.Lts as lts
-use Rattle.lsda.proofs.call_site.Reads as call-site-reads
-use Rattle.section.proofs.suffix.Reads as suffix-reads
 
 enum-known-found : tie.Need-enum-known-found
 enum-known-found c = search needs

@@ -4,12 +4,6 @@ use mathlib.Core.Path.{sym, _∙_}
 use borrow.Author.Needs.{needs}
 use Rattle.lookup.proofs.lookup.Statement.{statement}
 use Rattle.lookup.proofs.lookup.Tie as tie
-use Rattle.lookup.proofs.lookup.Reads as reads
-use Rattle.lookup.proofs.lookup.Lts as lts
-use Rattle.image.proofs.led_by.Reads as led-by-reads
-use Rattle.image.proofs.sections.Reads as sections-reads
-use Rattle.lookup.proofs.answer_of.Reads as answer-of-reads
-use Rattle.search.proofs.search.Reads as search-reads
 
 sections-requires : tie.Need-sections-requires
 sections-requires c κs = search needs

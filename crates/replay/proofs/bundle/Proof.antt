@@ -4,11 +4,6 @@ use mathlib.Core.Path.{sym}
 use borrow.Author.Needs.{needs}
 use Rattle.replay.proofs.bundle.Statement.{statement}
 use Rattle.replay.proofs.bundle.Tie as tie
-use Rattle.replay.proofs.bundle.Reads as reads
-use Rattle.replay.proofs.bundle.Lts as lts
-use Rattle.anrukfal.proofs.anrukfal_bundle.Reads as anrukfal-bundle-reads
-use Rattle.replay.proofs.show6.Reads as show6-reads
-use Rattle.replay.proofs.text.fill.Reads as fill-reads
 
 fill-requires : tie.Need-fill-requires
 fill-requires c κs = search needs

@@ -4,13 +4,6 @@ use mathlib.Core.Path.{sym}
 use borrow.Author.Needs.{needs}
 use Rattle.replay.proofs.call_site.Statement.{statement}
 use Rattle.replay.proofs.call_site.Tie as tie
-use Rattle.replay.proofs.call_site.Reads as reads
-use Rattle.replay.proofs.call_site.Lts as lts
-use Rattle.anrukfal.proofs.anrukfal_call_site.Reads as anrukfal-call-site-reads
-use Rattle.replay.proofs.low.Reads as low-reads
-use Rattle.replay.proofs.show5.Reads as show5-reads
-use Rattle.replay.proofs.text.fill.Reads as fill-reads
-use Rattle.replay.proofs.text.number.Reads as number-reads
 
 number-requires : tie.Need-number-requires
 number-requires c κs = search needs

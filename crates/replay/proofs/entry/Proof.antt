@@ -4,13 +4,6 @@ use mathlib.Core.Path.{sym}
 use borrow.Author.Needs.{needs}
 use Rattle.replay.proofs.entry.Statement.{statement}
 use Rattle.replay.proofs.entry.Tie as tie
-use Rattle.replay.proofs.entry.Reads as reads
-use Rattle.replay.proofs.entry.Lts as lts
-use Rattle.anrukfal.proofs.anrukfal_index_entry.Reads as anrukfal-index-entry-reads
-use Rattle.replay.proofs.low.Reads as low-reads
-use Rattle.replay.proofs.show6.Reads as show6-reads
-use Rattle.replay.proofs.text.fill.Reads as fill-reads
-use Rattle.replay.proofs.text.number.Reads as number-reads
 
 number-requires : tie.Need-number-requires
 number-requires c κs = search needs

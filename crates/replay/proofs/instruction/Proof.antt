@@ -4,13 +4,6 @@ use mathlib.Core.Path.{sym}
 use borrow.Author.Needs.{needs}
 use Rattle.replay.proofs.instruction.Statement.{statement}
 use Rattle.replay.proofs.instruction.Tie as tie
-use Rattle.replay.proofs.instruction.Reads as reads
-use Rattle.replay.proofs.instruction.Lts as lts
-use Rattle.anrukfal.proofs.anrukfal_instruction.Reads as anrukfal-instruction-reads
-use Rattle.replay.proofs.low.Reads as low-reads
-use Rattle.replay.proofs.show4.Reads as show4-reads
-use Rattle.replay.proofs.text.fill.Reads as fill-reads
-use Rattle.replay.proofs.text.number.Reads as number-reads
 
 number-requires : tie.Need-number-requires
 number-requires c κs = search needs

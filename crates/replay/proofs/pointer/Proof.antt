@@ -4,13 +4,6 @@ use mathlib.Core.Path.{sym}
 use borrow.Author.Needs.{needs}
 use Rattle.replay.proofs.pointer.Statement.{statement}
 use Rattle.replay.proofs.pointer.Tie as tie
-use Rattle.replay.proofs.pointer.Reads as reads
-use Rattle.replay.proofs.pointer.Lts as lts
-use Rattle.anrukfal.proofs.anrukfal_pointer.Reads as anrukfal-pointer-reads
-use Rattle.replay.proofs.low.Reads as low-reads
-use Rattle.replay.proofs.show2.Reads as show2-reads
-use Rattle.replay.proofs.text.fill.Reads as fill-reads
-use Rattle.replay.proofs.text.number.Reads as number-reads
 
 number-requires : tie.Need-number-requires
 number-requires c κs = search needs

@@ -1,9 +1,6 @@
 use borrow.Author.Needs.{needs}
 use Rattle.section.proofs.address_of.Statement.{statement}
 use Rattle.section.proofs.address_of.Tie as tie
-use Rattle.section.proofs.address_of.Reads as reads
-use Rattle.section.proofs.address_of.Lts as lts
-use Rattle.std.proofs.num.wrapping_add_u32.Reads as wrapping-add-u32-reads
 
 -- src/lib.rt:127:10
 wrapping-add-u32-requires : tie.Need-wrapping-add-u32-requires

@@ -4,9 +4,6 @@ use Rattle.section.specs.Rule.{indexRule}
 use borrow.Author.Needs.{needs}
 use Rattle.section.proofs.index_rule.Statement.{statement}
 use Rattle.section.proofs.index_rule.Tie as tie
-use Rattle.section.proofs.index_rule.Reads as reads
-use Rattle.section.proofs.index_rule.Lts as lts
-use Rattle.section.proofs.rule.Reads as rule-reads
 
 -- src/lib.rt:97:11
 rule-requires : tie.Need-rule-requires

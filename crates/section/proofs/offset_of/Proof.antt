@@ -4,8 +4,6 @@ use Rattle.section.proofs.Places.{offset-in, offset-past, offset-below}
 use borrow.Author.Needs.{needs}
 use Rattle.section.proofs.offset_of.Statement.{statement}
 use Rattle.section.proofs.offset_of.Tie as tie
-use Rattle.section.proofs.offset_of.Reads as reads
-use Rattle.section.proofs.offset_of.Lts as lts
 
 -- src/lib.rt:141:9
 returns : tie.Need-returns

@@ -1,11 +1,9 @@
-use mathlib.Core.Path.{refl, sym}
+use mathlib.Core.Path.{refl}
 use native.Mathlib.Omega.{arith}
-use Rattle.section.proofs.Views.{view-made, empty-made, spot-in, spot-out}
+use Rattle.section.proofs.Views.{view-made, spot-in, spot-out}
 use borrow.Author.Needs.{needs}
 use Rattle.section.proofs.part.Statement.{statement}
 use Rattle.section.proofs.part.Tie as tie
-use Rattle.section.proofs.part.Reads as reads
-use Rattle.section.proofs.part.Lts as lts
 
 -- src/lib.rt:218:17
 sub-if2 : tie.Need-sub-if2

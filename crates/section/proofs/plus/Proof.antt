@@ -4,8 +4,6 @@ use Rattle.section.proofs.Places.{plus-in, plus-over}
 use borrow.Author.Needs.{needs}
 use Rattle.section.proofs.plus.Statement.{statement}
 use Rattle.section.proofs.plus.Tie as tie
-use Rattle.section.proofs.plus.Reads as reads
-use Rattle.section.proofs.plus.Lts as lts
 
 -- src/lib.rt:173:15
 cast-sum : tie.Need-cast-sum

@@ -1,40 +1,32 @@
+-- The code computes the target as `prel31-raised` says it. Assumes nothing.
+use mathlib.Core.Path.{_≡_, sym}
+use Prim.Native.Nat.{ℕ, _+_, _-_, _%_, _^_, _<_}
+use Rattle.section.proofs.Places.{prel31-raised}
 use Rattle.section.specs.Place.{addr}
-use mathlib.Core.Path.{sym, ap, _∙_}
+use Rattle.section.specs.Prel31.{prel31Of}
+use Rattle.section.specs.declared.Addr.{Addr}
 use native.Mathlib.Omega.{arith}
-use Rattle.section.proofs.Places.{prel31-up, prel31-down}
 use borrow.Author.Needs.{needs}
 use Rattle.section.proofs.prel31.Statement.{statement}
 use Rattle.section.proofs.prel31.Tie as tie
-use Rattle.section.proofs.prel31.Reads as reads
-use Rattle.section.proofs.prel31.Lts as lts
-use Rattle.std.proofs.num.wrapping_add_u32.Reads as wrapping-add-u32-reads
 
--- src/lib.rt:157:14
+add-raised : tie.Need-add-raised
+add-raised c = search needs
+
+wrapping-sub-u32-requires : tie.Need-wrapping-sub-u32-requires
+wrapping-sub-u32-requires c κs = search needs
+
 wrapping-add-u32-requires : tie.Need-wrapping-add-u32-requires
 wrapping-add-u32-requires c κs = search needs
 
--- src/lib.rt:159:50
-add-wrapping-add-u32 : tie.Need-add-wrapping-add-u32
-add-wrapping-add-u32 c = search needs
+target : (w : ℕ) (p : Addr) {d t : ℕ} → d < 2 ^ 32 → (d + 2 ^ 30) % 2 ^ 32 ≡ (w % 2 ^ 31 + 2 ^ 30) % 2 ^ 31 → t ≡ (p .0 + d) % 2 ^ 32 → addr t ≡ prel31Of w p
+target w p {d = d} b e f =
+    let q : d ≡ ((w % 2 ^ 31 + 2 ^ 30) % 2 ^ 31 + (2 ^ 32 - 2 ^ 30)) % 2 ^ 32 = omega arith in
+    rw (f, q) (sym (prel31-raised w p))
 
--- src/lib.rt:159:14
-wrapping-add-u32-requires-2 : tie.Need-wrapping-add-u32-requires-2
-wrapping-add-u32-requires-2 c κs = search needs
-
--- src/lib.rt:152:1
 returns : tie.Need-returns
-returns c = ap addr (c .wrapping-add-u32 .ensures) ∙ sym (prel31-up _ _ (omega arith))
-
--- src/lib.rt:152:1
-returns-2 : tie.Need-returns-2
-returns-2 c = ap addr (c .wrapping-add-u322 .ensures) ∙ sym (prel31-down _ _ (omega arith))
+returns c = target _ _ (search needs) (c .before .wrapping-sub-u32 .ensures) (c .wrapping-add-u32 .ensures)
 
 pub prel31-spec : {M : Type 1} → statement M
 prel31-spec =
-    tie.close
-    (tie.spec
-    wrapping-add-u32-requires
-    add-wrapping-add-u32
-    wrapping-add-u32-requires-2
-    returns
-    returns-2)
+    tie.close (tie.spec add-raised wrapping-sub-u32-requires wrapping-add-u32-requires returns)

@@ -4,8 +4,6 @@ use Rattle.section.proofs.Rules.{rule-long, rule-over, rule-fine}
 use borrow.Author.Needs.{needs}
 use Rattle.section.proofs.rule.Statement.{statement}
 use Rattle.section.proofs.rule.Tie as tie
-use Rattle.section.proofs.rule.Reads as reads
-use Rattle.section.proofs.rule.Lts as lts
 
 -- src/lib.rt:85:9
 returns : tie.Need-returns

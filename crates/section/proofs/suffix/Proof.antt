@@ -1,11 +1,9 @@
-use mathlib.Core.Path.{refl, sym}
+use mathlib.Core.Path.{refl}
 use native.Mathlib.Omega.{arith}
 use Rattle.section.proofs.Views.{view-made, suffix-in, suffix-out}
 use borrow.Author.Needs.{needs}
 use Rattle.section.proofs.suffix.Statement.{statement}
 use Rattle.section.proofs.suffix.Tie as tie
-use Rattle.section.proofs.suffix.Reads as reads
-use Rattle.section.proofs.suffix.Lts as lts
 
 -- src/lib.rt:232:23
 sub-result : tie.Need-sub-result

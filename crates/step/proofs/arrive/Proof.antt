@@ -2,8 +2,6 @@
 use borrow.Author.Needs.{needs}
 use Rattle.step.proofs.arrive.Statement.{statement}
 use Rattle.step.proofs.arrive.Tie as tie
-use Rattle.step.proofs.arrive.Reads as reads
-use Rattle.step.proofs.arrive.Lts as lts
 
 enum-told : tie.Need-enum-told
 enum-told c = search needs

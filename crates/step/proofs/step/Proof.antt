@@ -6,14 +6,6 @@ use mathlib.Core.Path.{sym, _∙_}
 use borrow.Author.Needs.{needs}
 use Rattle.step.proofs.step.Statement.{statement}
 use Rattle.step.proofs.step.Tie as tie
-use Rattle.step.proofs.step.Reads as reads
-use Rattle.step.proofs.step.Lts as lts
-use Rattle.image.proofs.led_by.Reads as led-by-reads
-use Rattle.image.proofs.sections.Reads as sections-reads
-use Rattle.search.proofs.search.Reads as search-reads
-use Rattle.section.proofs.stack_rule.Reads as stack-rule-reads
-use Rattle.step.proofs.hand_back.Reads as hand-back-reads
-use Rattle.step.proofs.step_by.Reads as step-by-reads
 
 sections-requires : tie.Need-sections-requires
 sections-requires c κs = search needs

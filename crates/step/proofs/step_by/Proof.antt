@@ -2,16 +2,9 @@
 use Rattle.step.proofs.Steps.{stepped-compact, stepped-generic}
 use Rattle.step.specs.Step.{steppedBy}
 use Rattle.entry.proofs.Laws.{words-are}
-use mathlib.Core.Path.{sym, _∙_}
 use borrow.Author.Needs.{needs}
 use Rattle.step.proofs.step_by.Statement.{statement}
 use Rattle.step.proofs.step_by.Tie as tie
-use Rattle.step.proofs.step_by.Reads as reads
-use Rattle.step.proofs.step_by.Lts as lts
-use Rattle.entry.proofs.instruction_words.Reads as instruction-words-reads
-use Rattle.step.proofs.arrive.Reads as arrive-reads
-use Rattle.step.proofs.hand_back.Reads as hand-back-reads
-use Rattle.step.proofs.run.run.Reads as run-reads
 
 enum-told : tie.Need-enum-told
 enum-told c = search needs

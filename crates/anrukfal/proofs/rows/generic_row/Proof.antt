@@ -2,11 +2,6 @@
 use borrow.Author.Needs.{needs}
 use Rattle.anrukfal.proofs.rows.generic_row.Statement.{statement}
 use Rattle.anrukfal.proofs.rows.generic_row.Tie as tie
-use Rattle.anrukfal.proofs.rows.generic_row.Reads as reads
-use Rattle.anrukfal.proofs.rows.generic_row.Lts as lts
-use Rattle.anrukfal.proofs.rows.action_number.Reads as action-number-reads
-use Rattle.anrukfal.proofs.rows.has_action.Reads as has-action-reads
-use Rattle.anrukfal.proofs.rows.pad_number.Reads as pad-number-reads
 
 pad-number-requires : tie.Need-pad-number-requires
 pad-number-requires c κs = search needs

@@ -2,9 +2,6 @@
 use borrow.Author.Needs.{needs}
 use Rattle.anrukfal.proofs.rows.index_row.Statement.{statement}
 use Rattle.anrukfal.proofs.rows.index_row.Tie as tie
-use Rattle.anrukfal.proofs.rows.index_row.Reads as reads
-use Rattle.anrukfal.proofs.rows.index_row.Lts as lts
-use Rattle.anrukfal.proofs.rows.personality_value.Reads as personality-value-reads
 
 enum-told : tie.Need-enum-told
 enum-told c = search needs

@@ -2,8 +2,6 @@
 use borrow.Author.Needs.{needs}
 use Rattle.anrukfal.proofs.rows.instruction_row.Statement.{statement}
 use Rattle.anrukfal.proofs.rows.instruction_row.Tie as tie
-use Rattle.anrukfal.proofs.rows.instruction_row.Reads as reads
-use Rattle.anrukfal.proofs.rows.instruction_row.Lts as lts
 
 enum-known-i : tie.Need-enum-known-i
 enum-known-i c = search needs

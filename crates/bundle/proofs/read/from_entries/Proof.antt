@@ -5,10 +5,6 @@ use Rattle.bundle.proofs.Laws.{entries-short, entries-many, entries-on}
 use borrow.Author.Needs.{needs}
 use Rattle.bundle.proofs.read.from_entries.Statement.{statement}
 use Rattle.bundle.proofs.read.from_entries.Tie as tie
-use Rattle.bundle.proofs.read.from_entries.Reads as reads
-use Rattle.bundle.proofs.read.from_entries.Lts as lts
-use Rattle.bundle.proofs.read.from_words.Reads as from-words-reads
-use Rattle.section.proofs.word_at.Reads as word-at-reads
 
 word-at-requires : tie.Need-word-at-requires
 word-at-requires c κs = search needs

@@ -5,10 +5,6 @@ use Rattle.bundle.proofs.Laws.{words-short, words-many, words-length, w
 use borrow.Author.Needs.{needs}
 use Rattle.bundle.proofs.read.from_words.Statement.{statement}
 use Rattle.bundle.proofs.read.from_words.Tie as tie
-use Rattle.bundle.proofs.read.from_words.Reads as reads
-use Rattle.bundle.proofs.read.from_words.Lts as lts
-use Rattle.bundle.proofs.read.laid.Reads as laid-reads
-use Rattle.section.proofs.word_at.Reads as word-at-reads
 
 mul-t7 : tie.Need-mul-t7
 mul-t7 c = search needs

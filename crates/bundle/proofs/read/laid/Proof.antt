@@ -4,10 +4,6 @@ use Rattle.bundle.specs.Bundle.{laidOf}
 use borrow.Author.Needs.{needs}
 use Rattle.bundle.proofs.read.laid.Statement.{statement}
 use Rattle.bundle.proofs.read.laid.Tie as tie
-use Rattle.bundle.proofs.read.laid.Reads as reads
-use Rattle.bundle.proofs.read.laid.Lts as lts
-use Rattle.section.proofs.index_rule.Reads as index-rule-reads
-use Rattle.section.proofs.table_rule.Reads as table-rule-reads
 
 mul-index-bytes : tie.Need-mul-index-bytes
 mul-index-bytes c = search needs

@@ -1,25 +1,54 @@
--- A word that is all there is read, and is not short. Assumes nothing.
-use mathlib.Core.Path.{sym, _∙_}
-use Rattle.section.proofs.Words.{word-here}
-use Rattle.entry.proofs.Ways.{never-short}
+-- Its four bytes are the word's digits. Assumes nothing.
+use Rattle.section.proofs.Words.{word-bytes}
+use mathlib.Core.Path.{_∙_}
+use denote.Ref.{now}
 use borrow.Author.Needs.{needs}
 use Rattle.entry.proofs.index.whole_word.Statement.{statement}
 use Rattle.entry.proofs.index.whole_word.Tie as tie
 
-word-at-requires : tie.Need-word-at-requires
-word-at-requires c κs = search needs
+cast-o : tie.Need-cast-o
+cast-o c = search needs
 
-enum-known-w : tie.Need-enum-known-w
-enum-known-w c = search needs
+shared-slice-read-from-le : tie.Need-shared-slice-read-from-le
+shared-slice-read-from-le c = search needs
 
-enum-told : tie.Need-enum-told
-enum-told c = search needs
+add-from-le : tie.Need-add-from-le
+add-from-le c = search needs
+
+shared-slice-read-from-le-2 : tie.Need-shared-slice-read-from-le-2
+shared-slice-read-from-le-2 c = search needs
+
+add-from-le-2 : tie.Need-add-from-le-2
+add-from-le-2 c = search needs
+
+shared-slice-read-from-le-3 : tie.Need-shared-slice-read-from-le-3
+shared-slice-read-from-le-3 c = search needs
+
+add-from-le-3 : tie.Need-add-from-le-3
+add-from-le-3 c = search needs
+
+shared-slice-read-from-le-4 : tie.Need-shared-slice-read-from-le-4
+shared-slice-read-from-le-4 c = search needs
+
+from-le-requires : tie.Need-from-le-requires
+from-le-requires c κs = search needs
 
 returns : tie.Need-returns
-returns c = word-here _ _ _ (sym (c .before .before .before .word-at .ensures) ∙ c .before .w .given .1) .1
-
-returns-2 : tie.Need-returns-2
-returns-2 c = never-short _ _ (c .before .before .before .before .pre) (sym (c .before .before .word-at .ensures) ∙ c .enum-told .given .1)
+returns c =
+    let a = c .before .before .before .before .before .before .before .args in
+    c .from-le .ensures ∙ word-bytes (now (a .index)) (a .at .0) (c .before .shared-slice-known5 .given)
 
 pub whole-word-spec : {M : Type 1} → statement M
-whole-word-spec = tie.close (tie.spec word-at-requires enum-known-w enum-told returns returns-2)
+whole-word-spec =
+    tie.close
+    (tie.spec
+    cast-o
+    shared-slice-read-from-le
+    add-from-le
+    shared-slice-read-from-le-2
+    add-from-le-2
+    shared-slice-read-from-le-3
+    add-from-le-3
+    shared-slice-read-from-le-4
+    from-le-requires
+    returns)

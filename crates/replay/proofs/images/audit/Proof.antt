@@ -4,13 +4,6 @@ use mathlib.Core.Path.{sym}
 use borrow.Author.Needs.{needs}
 use Rattle.replay.proofs.images.audit.Statement.{statement}
 use Rattle.replay.proofs.images.audit.Tie as tie
-use Rattle.replay.proofs.images.audit.Reads as reads
-use Rattle.replay.proofs.images.audit.Lts as lts
-use Rattle.anrukfal.proofs.anrukfal_audit.Reads as anrukfal-audit-reads
-use Rattle.replay.proofs.low.Reads as low-reads
-use Rattle.replay.proofs.show1.Reads as show1-reads
-use Rattle.replay.proofs.text.fill.Reads as fill-reads
-use Rattle.replay.proofs.text.number.Reads as number-reads
 
 number-requires : tie.Need-number-requires
 number-requires c κs = search needs

@@ -3,10 +3,6 @@ use Prim.Native.Nat.{_-_, _≤_}
 use borrow.Author.Needs.{needs}
 use Rattle.replay.proofs.images.core_of.Statement.{statement}
 use Rattle.replay.proofs.images.core_of.Tie as tie
-use Rattle.replay.proofs.images.core_of.Reads as reads
-use Rattle.replay.proofs.images.core_of.Lts as lts
-use Rattle.replay.proofs.low.Reads as low-reads
-use Rattle.replay.proofs.text.number.Reads as number-reads
 
 abbrev Inv-loop : tie.InvT-loop
 Inv-loop line at core₀ next₀ i₀ core next i = i ≤ 16

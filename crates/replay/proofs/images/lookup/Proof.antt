@@ -4,13 +4,6 @@ use mathlib.Core.Path.{sym}
 use borrow.Author.Needs.{needs}
 use Rattle.replay.proofs.images.lookup.Statement.{statement}
 use Rattle.replay.proofs.images.lookup.Tie as tie
-use Rattle.replay.proofs.images.lookup.Reads as reads
-use Rattle.replay.proofs.images.lookup.Lts as lts
-use Rattle.anrukfal.proofs.anrukfal_lookup.Reads as anrukfal-lookup-reads
-use Rattle.replay.proofs.images.show9.Reads as show9-reads
-use Rattle.replay.proofs.low.Reads as low-reads
-use Rattle.replay.proofs.text.fill.Reads as fill-reads
-use Rattle.replay.proofs.text.number.Reads as number-reads
 
 number-requires : tie.Need-number-requires
 number-requires c κs = search needs

@@ -3,9 +3,6 @@ use Prim.Native.Nat.{_-_, _≤_}
 use borrow.Author.Needs.{needs}
 use Rattle.replay.proofs.images.show_core.Statement.{statement}
 use Rattle.replay.proofs.images.show_core.Tie as tie
-use Rattle.replay.proofs.images.show_core.Reads as reads
-use Rattle.replay.proofs.images.show_core.Lts as lts
-use Rattle.replay.proofs.show_number.Reads as show-number-reads
 
 abbrev Inv-loop : tie.InvT-loop
 Inv-loop core i₀ i = i ≤ 16

@@ -3,10 +3,6 @@ use Prim.Native.Nat.{_-_, _≤_}
 use borrow.Author.Needs.{needs}
 use Rattle.replay.proofs.images.show_vfp.Statement.{statement}
 use Rattle.replay.proofs.images.show_vfp.Tie as tie
-use Rattle.replay.proofs.images.show_vfp.Reads as reads
-use Rattle.replay.proofs.images.show_vfp.Lts as lts
-use Rattle.io.proofs.print_hex.Reads as print-hex-reads
-use Rattle.io.proofs.write_all.Reads as write-all-reads
 
 abbrev Inv-loop : tie.InvT-loop
 Inv-loop vfp i₀ t3 i = i ≤ 32

@@ -4,17 +4,6 @@ use mathlib.Core.Path.{sym}
 use borrow.Author.Needs.{needs}
 use Rattle.replay.proofs.images.step.Statement.{statement}
 use Rattle.replay.proofs.images.step.Tie as tie
-use Rattle.replay.proofs.images.step.Reads as reads
-use Rattle.replay.proofs.images.step.Lts as lts
-use Rattle.anrukfal.proofs.anrukfal_step.Reads as anrukfal-step-reads
-use Rattle.replay.proofs.images.core_of.Reads as core-of-reads
-use Rattle.replay.proofs.images.show_core.Reads as show-core-reads
-use Rattle.replay.proofs.images.show_vfp.Reads as show-vfp-reads
-use Rattle.replay.proofs.images.vfp_of.Reads as vfp-of-reads
-use Rattle.replay.proofs.low.Reads as low-reads
-use Rattle.replay.proofs.show2.Reads as show2-reads
-use Rattle.replay.proofs.text.fill.Reads as fill-reads
-use Rattle.replay.proofs.text.number.Reads as number-reads
 
 number-requires : tie.Need-number-requires
 number-requires c κs = search needs

@@ -3,9 +3,6 @@ use Prim.Native.Nat.{_-_, _≤_}
 use borrow.Author.Needs.{needs}
 use Rattle.replay.proofs.images.vfp_of.Statement.{statement}
 use Rattle.replay.proofs.images.vfp_of.Tie as tie
-use Rattle.replay.proofs.images.vfp_of.Reads as reads
-use Rattle.replay.proofs.images.vfp_of.Lts as lts
-use Rattle.std.proofs.num.wrapping_add_u64.Reads as wrapping-add-u64-reads
 
 abbrev Inv-loop : tie.InvT-loop
 Inv-loop vfp₀ value₀ i₀ vfp value i = i ≤ 32

@@ -7,11 +7,6 @@ use Prim.Native.Nat.{_-_, _≤_, _*_}
 use borrow.Author.Needs.{needs}
 use Rattle.replay.proofs.text.fill.Statement.{statement}
 use Rattle.replay.proofs.text.fill.Tie as tie
-use Rattle.replay.proofs.text.fill.Reads as reads
-use Rattle.replay.proofs.text.fill.Lts as lts
-use Rattle.replay.proofs.text.digit.Reads as digit-reads
-use Rattle.replay.proofs.text.extended.Reads as extended-reads
-use Rattle.replay.proofs.text.shifted.Reads as shifted-reads
 
 abbrev Inv-loop : tie.InvT-loop
 Inv-loop text at out₀ i₀ k₀ out i k = (k ≤ 2 * length out) × (length out ≡ 131200)

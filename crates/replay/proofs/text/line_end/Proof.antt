@@ -4,8 +4,6 @@ use Prim.Native.Nat.{_-_, _≤_}
 use borrow.Author.Needs.{needs}
 use Rattle.replay.proofs.text.line_end.Statement.{statement}
 use Rattle.replay.proofs.text.line_end.Tie as tie
-use Rattle.replay.proofs.text.line_end.Reads as reads
-use Rattle.replay.proofs.text.line_end.Lts as lts
 
 abbrev Inv-loop : tie.InvT-loop
 Inv-loop text at i₀ i = (at ≤ i) × (i ≤ length text)

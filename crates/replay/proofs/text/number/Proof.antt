@@ -1,13 +1,9 @@
 -- The measure is what is left of the text. Assumes nothing.
 use lib.ListN.{length}
-use Prim.Native.Nat.{_-_, _≤_}
+use Prim.Native.Nat.{_-_}
 use borrow.Author.Needs.{needs}
 use Rattle.replay.proofs.text.number.Statement.{statement}
 use Rattle.replay.proofs.text.number.Tie as tie
-use Rattle.replay.proofs.text.number.Reads as reads
-use Rattle.replay.proofs.text.number.Lts as lts
-use Rattle.replay.proofs.text.digit.Reads as digit-reads
-use Rattle.replay.proofs.text.past.Reads as past-reads
 
 abbrev Inv-loop : tie.InvT-loop
 Inv-loop text at value₀ i₀ value i = Unit

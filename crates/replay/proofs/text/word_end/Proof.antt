@@ -1,11 +1,9 @@
 -- The measure is what is left of the line. Assumes nothing.
 use lib.ListN.{length}
-use Prim.Native.Nat.{_-_, _≤_}
+use Prim.Native.Nat.{_-_}
 use borrow.Author.Needs.{needs}
 use Rattle.replay.proofs.text.word_end.Statement.{statement}
 use Rattle.replay.proofs.text.word_end.Tie as tie
-use Rattle.replay.proofs.text.word_end.Reads as reads
-use Rattle.replay.proofs.text.word_end.Lts as lts
 
 abbrev Inv-loop : tie.InvT-loop
 Inv-loop line i₀ i = Unit
