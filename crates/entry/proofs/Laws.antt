@@ -1,6 +1,6 @@
 -- What the crates above know of entries: they cite these laws and unfold no definition. Assumes nothing.
 use Prim.Native.Nat.{ℕ, _+_, _-_, _*_, _/_, _%_, _^_, _≤_, _<_}
-use mathlib.Core.Path.{_≡_, refl, sym, _∙_}
+use mathlib.Core.Path.{_≡_, refl, sym, ap, _∙_}
 use mathlib.Core.Logic.{_↔_}
 use mathlib.Core.List.{List}
 use native.Mathlib.Omega.{arith}
@@ -11,7 +11,8 @@ use denote.Ref.{RefT, now}
 use Rattle.section.specs.Rule.{indexMost, tableMost, Section, IndexSection}
 use Rattle.section.specs.Word.{word, wordAt, onWord}
 use Rattle.section.specs.View.{Part}
-use Rattle.section.specs.Place.{off}
+use Rattle.section.specs.Place.{off, addressOf}
+use Rattle.section.specs.Prel31.{prel31Of}
 use Rattle.section.specs.declared.Addr.{Addr}
 use Rattle.section.specs.declared.Off.{Off}
 use Rattle.section.specs.declared.Word.{Word}
@@ -64,6 +65,15 @@ module _ (xs : List ℕ) (a : Addr) (k : ℕ) where
     pub function-sound : k < entries xs → word xs (8 * k) < 2 ^ 31 → functionAt xs a k ≡ FunctionRead.At (functionOf xs a k)
     unfolding functionAt
     function-sound h w = rw (there h) (ways.function-sound xs a k w)
+
+    -- what a reader of that word makes of it
+    pub function-from : k < entries xs → {w : ℕ} {p f : Addr} → w ≡ word xs (8 * k) → w < 2 ^ 31 → p ≡ addressOf a (off (8 * k)) → f ≡ prel31Of w p
+        → functionAt xs a k ≡ FunctionRead.At f
+    function-from h {w} {p} {f} e b q r = function-sound h (omega arith) ∙ ap FunctionRead.At (sym (ways.function-made xs a k w e p f q r))
+
+    pub function-corrupt : k < entries xs → {w : ℕ} → w ≡ word xs (8 * k) → 2 ^ 31 ≤ w → functionAt xs a k ≡ FunctionRead.Refused Refusal.Corrupt
+    unfolding functionAt
+    function-corrupt h e b = rw (there h) (ways.function-corrupt xs a k (omega arith))
 
     pub function-gives : FunctionGives xs a k (functionAt xs a k)
     unfolding functionAt functionIn

@@ -1,11 +1,15 @@
 // The search of the index: the entry whose function is at or below a counter, by halving.
 ghost use mathlib.Core.Path.{_≡_};
-ghost use Prim.Native.Nat.{_≤_};
-ghost use Rattle.section.specs.Rule.{indexMost};
+ghost use Prim.Native.Nat.{_*_, _/_, _<_};
+ghost use lib.ListN.{length};
+ghost use Rattle.section.specs.Rule.{indexRule};
+ghost use Rattle.section.specs.Word.{word};
+ghost use Rattle.section.specs.declared.Check.{Check};
 ghost use Rattle.search.specs.Search.{halve, searchOf};
 use entry::FunctionRead;
 use section::Addr;
 use section::Check;
+use section::Off;
 use section::Refusal;
 
 // The entry's number, its function, which was read on the way, and how many function words were read.
@@ -20,9 +24,18 @@ pub enum Searched {
     Refused(Refusal),
 }
 
+// The function word of an entry that is there: no number is tested and no answer is made on the way of the halving.
+fn function_word(index: &[u8], number: u32) -> u32
+    requires { ⌜ number < length (now index) / 8 ⌝ }
+    ensures { λ r. ⌜ r ≡ word (now (index .entry)) (8 * number) ⌝ }
+{
+    let o = 8 * number as usize;
+    section::from_le(index[o], index[o + 1], index[o + 2], index[o + 3])
+}
+
 // Halves 0 .. entries, the first function having been read.
 fn halved(index: &[u8], index_address: Addr, counter: Addr, first: Addr, entries: u32) -> Searched
-    requires { ⌜ entries ≤ indexMost ⌝ }
+    requires { ⌜ (indexRule (length (now index)) «index_address» ≡ Check.Fine) × (entries ≡ length (now index) / 8) ⌝ }
     ensures { λ r. ⌜ r ≡ halve (now (index .entry)) «index_address» counter 0 first entries 1 ⌝ }
 {
     let mut low: u32 = 0;
@@ -31,19 +44,17 @@ fn halved(index: &[u8], index_address: Addr, counter: Addr, first: Addr, entries
     let mut probes: u32 = 1;
     while 1 < high - low {
         let middle = (low + high) / 2;
-        match entry::function_at(index, index_address, middle) {
-            FunctionRead::Refused(r) => {
-                return Searched::Refused(r);
-            }
-            FunctionRead::At(f) => {
-                probes = probes + 1;
-                if f.0 <= counter.0 {
-                    low = middle;
-                    function = f;
-                } else {
-                    high = middle;
-                }
-            }
+        let w = function_word(index, middle);
+        if 0x8000_0000 <= w {
+            return Searched::Refused(Refusal::Corrupt);
+        }
+        let f = section::prel31(w, section::address_of(index_address, Off(8 * middle)));
+        probes = probes + 1;
+        if f.0 <= counter.0 {
+            low = middle;
+            function = f;
+        } else {
+            high = middle;
         }
     }
     Searched::Found(Hit {

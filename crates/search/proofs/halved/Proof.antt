@@ -1,20 +1,20 @@
--- Each turn reads the middle and goes on as the definition does, with less between low and high. Assumes nothing.
-use Rattle.search.proofs.Ways.{halve-done, halve-refused, halve-up, halve-down}
-use Rattle.search.specs.Search.{halve}
-use borrow.Author.Needs.{needs}
-use native.Mathlib.Omega.{arith}
-use mathlib.Core.Path.{_≡_, refl, sym, _∙_}
+-- Each turn reads the middle, which is an entry that is there, and goes on as the definition does, with less between low and high. Assumes nothing.
 use Prim.Native.Nat.{_+_, _-_, _≤_}
+use mathlib.Core.Path.{_≡_, refl, sym, _∙_}
+use native.Mathlib.Omega.{arith}
+use borrow.Author.Needs.{needs}
+use Rattle.entry.proofs.Laws.{function-from, function-corrupt}
+use Rattle.section.proofs.Rules.{index-exact}
+use Rattle.search.specs.Search.{halve}
+use Rattle.search.proofs.Ways.{halve-done, halve-refused, halve-up, halve-down}
 use Rattle.search.proofs.halved.Statement.{statement}
 use Rattle.search.proofs.halved.Tie as tie
 
 abbrev Inv-loop : tie.InvT-loop
-Inv-loop index index-address counter entries low₀ function₀ high₀ probes₀ low function high probes =
-    (low ≤ high) × (high ≤ entries) × (probes + (high - low) ≤ entries + 1) × (halve index index-address counter 0 function₀ entries 1 ≡ halve index index-address counter low function high probes)
+Inv-loop index index-address counter entries low₀ function₀ high₀ probes₀ low function high probes = (low ≤ high) × (high ≤ entries) × (probes + (high - low) ≤ entries + 1) × (halve index index-address counter 0 function₀ entries 1 ≡ halve index index-address counter low function high probes)
 
 abbrev μ-loop : tie.MeasureT-loop
-μ-loop index index-address counter entries low₀ function₀ high₀ probes₀ low function high probes =
-    high - low
+μ-loop index index-address counter entries low₀ function₀ high₀ probes₀ low function high probes = high - low
 
 loop-holds : tie.Need-loop-holds Inv-loop μ-loop
 loop-holds c = (omega arith, omega arith, omega arith, refl)
@@ -23,21 +23,22 @@ sub-loop : tie.Need-sub-loop Inv-loop μ-loop
 sub-loop c = search needs
 
 add-middle : tie.Need-add-middle Inv-loop μ-loop
-add-middle c = search needs
+add-middle c = omega (arith, index-exact _ _ .0 (c .before .before .before .pre .0) .section .short, c .before .before .before .pre .1)
 
-function-at-requires : tie.Need-function-at-requires Inv-loop μ-loop
-function-at-requires c κs = search needs
-
-enum-known-r : tie.Need-enum-known-r Inv-loop μ-loop
-enum-known-r c = search needs
+function-word-requires : tie.Need-function-word-requires Inv-loop μ-loop
+function-word-requires c κs = omega (arith, c .before .before .before .pre .1)
 
 returns : tie.Need-returns Inv-loop μ-loop
-returns c =
-    let f = c .before .before .before in
-    sym (f .before .before .loop .inv .3 ∙ halve-refused _ _ _ _ _ _ _ (omega arith) _ (sym (f .function-at .ensures) ∙ c .before .r .given .1))
+returns c = sym (c .before .before .before .loop .inv .3 ∙ halve-refused _ _ _ _ _ _ _ (omega arith) _ (function-corrupt _ _ _ (index-exact _ _ .0 (c .before .before .before .before .before .pre .0)) (omega (arith, c .before .before .before .before .before .pre .1)) (c .before .function-word .ensures) (omega arith)))
 
-enum-known-f : tie.Need-enum-known-f Inv-loop μ-loop
-enum-known-f c = search needs
+mul-t13 : tie.Need-mul-t13 Inv-loop μ-loop
+mul-t13 c = omega (arith, index-exact _ _ .0 (c .before .before .before .before .before .pre .0) .section .short, c .before .before .before .before .before .pre .1)
+
+address-of-requires : tie.Need-address-of-requires Inv-loop μ-loop
+address-of-requires c κs = search needs
+
+prel31-requires : tie.Need-prel31-requires Inv-loop μ-loop
+prel31-requires c κs = search needs
 
 add-probes : tie.Need-add-probes Inv-loop μ-loop
 add-probes c = search needs
@@ -46,19 +47,13 @@ loop-less : tie.Need-loop-less Inv-loop μ-loop
 loop-less c = search needs
 
 loop-again : tie.Need-loop-again Inv-loop μ-loop
-loop-again c =
-    let v = c .before .before .before .before in
-    let f = v .before .before in
-    (omega arith, omega arith, omega arith, f .before .before .loop .inv .3 ∙ halve-up _ _ _ _ _ _ _ (omega arith) _ (sym (f .function-at .ensures) ∙ v .f .given .1) (omega arith))
+loop-again c = (omega arith, omega arith, omega arith, c .before .before .before .before .before .before .before .before .loop .inv .3 ∙ halve-up _ _ _ _ _ _ _ (omega arith) _ (function-from _ _ _ (index-exact _ _ .0 (c .before .before .before .before .before .before .before .before .before .before .pre .0)) (omega (arith, c .before .before .before .before .before .before .before .before .before .before .pre .1)) (c .before .before .before .before .before .before .function-word .ensures) (omega arith) (c .before .before .before .before .address-of .ensures) (c .before .before .before .prel31 .ensures)) (omega arith))
 
 loop-less-2 : tie.Need-loop-less-2 Inv-loop μ-loop
 loop-less-2 c = search needs
 
 loop-again-2 : tie.Need-loop-again-2 Inv-loop μ-loop
-loop-again-2 c =
-    let v = c .before .before .before .before in
-    let f = v .before .before in
-    (omega arith, omega arith, omega arith, f .before .before .loop .inv .3 ∙ halve-down _ _ _ _ _ _ _ (omega arith) _ (sym (f .function-at .ensures) ∙ v .f .given .1) (omega arith))
+loop-again-2 c = (omega arith, omega arith, omega arith, c .before .before .before .before .before .before .before .before .loop .inv .3 ∙ halve-down _ _ _ _ _ _ _ (omega arith) _ (function-from _ _ _ (index-exact _ _ .0 (c .before .before .before .before .before .before .before .before .before .before .pre .0)) (omega (arith, c .before .before .before .before .before .before .before .before .before .before .pre .1)) (c .before .before .before .before .before .before .function-word .ensures) (omega arith) (c .before .before .before .before .address-of .ensures) (c .before .before .before .prel31 .ensures)) (omega arith))
 
 returns-2 : tie.Need-returns-2 Inv-loop μ-loop
 returns-2 c = sym (c .before .loop .inv .3 ∙ halve-done _ _ _ _ _ _ _ (omega arith))
@@ -72,10 +67,11 @@ halved-spec =
     loop-holds
     sub-loop
     add-middle
-    function-at-requires
-    enum-known-r
+    function-word-requires
     returns
-    enum-known-f
+    mul-t13
+    address-of-requires
+    prel31-requires
     add-probes
     loop-less
     loop-again

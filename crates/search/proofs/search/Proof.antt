@@ -2,7 +2,7 @@
 use Rattle.search.proofs.Ways.{search-section, search-empty, search-refused, search-below, search-halve}
 use Rattle.section.proofs.Rules.{index-exact}
 use native.Mathlib.Omega.{arith}
-use mathlib.Core.Path.{_≡_, sym, _∙_}
+use mathlib.Core.Path.{_≡_, refl, sym, _∙_}
 use Prim.Native.Nat.{_≤_}
 use lib.ListN.{length}
 use denote.Ref.{now}
@@ -44,7 +44,7 @@ enum-known-first : tie.Need-enum-known-first
 enum-known-first c = search needs
 
 halved-requires : tie.Need-halved-requires
-halved-requires c κs = omega (arith, short (c .before .before .before .before .before .before .before .before))
+halved-requires c κs = (passed (c .before .before .before .before .before .before .before .before), refl)
 
 returns-2 : tie.Need-returns-2
 returns-2 c = sym (search-section _ _ _ _ (sym (c .before .before .before .index-rule .ensures) ∙ c .before .r .given .1))
