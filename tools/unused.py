@@ -1,5 +1,5 @@
 #!/usr/bin/env python3
-"""Names that a file brings in and never uses, and laws that nothing cites. `unused.py --cut` takes the names out; a law is for a reader to judge."""
+"""Names that a file brings in and never uses, and laws and definitions that neither a proof nor a document cites. `unused.py --cut` takes the names out."""
 import collections
 import glob
 import re
@@ -7,7 +7,7 @@ import sys
 
 COMMENT = re.compile(r"^\s*(--|//)")
 USE = re.compile(r"^(\s*(?:ghost )?use [^\s;{]+?)(?:\.\{([^}]*)\})?( as (\S+?))?(;?)$")
-LAW = re.compile(r"^\s*(?:(?:abbrev|unfoldable|opaque) )*(?:pub )?(?:data |record )?([^\s:(){}_]+)(?: \([^)]*\)| \{[^}]*\})* : ")
+LAW = re.compile(r"^(\s*)(?:(?:abbrev|unfoldable|opaque) )*(?:pub )?(?:data |record )?([^\s:(){}_]+)(?: \([^)]*\)| \{[^}]*\})* : ")
 
 
 def words(text):
@@ -51,12 +51,14 @@ def without_unused(path):
 def uncited(files):
     text = {f: [l for l in lines_of(f) if not COMMENT.match(l) and not USE.match(l)] for f in files}
     counts = words("\n".join(l for ls in text.values() for l in ls))
+    counts.update(words("\n".join(l for path in glob.glob("docs/*.md") for l in lines_of(path))))
     for path in files:
-        if path.endswith("Proof.antt") or not path.endswith(".antt"):
+        # A function's own proof file has its needs, and Answers.antt the paper's rows for each answer.
+        if path.endswith(("Proof.antt", "Answers.antt", ".rt")):
             continue
-        for name in dict.fromkeys(m.group(1) for l in text[path] if (m := LAW.match(l))):
-            own = re.compile(r"^\s*(?:(?:abbrev|unfoldable|opaque) )*(?:pub )?(?:data |record )?" + re.escape(name) + r"(?![^\s:({]).*(?: :| = | =$)")
-            if counts[name] <= sum(1 for ls in text.values() for l in ls if own.match(l)):
+        for indent, name in dict.fromkeys(m.groups() for l in text[path] if (m := LAW.match(l))):
+            own = re.compile(f"{indent}(?:(?:abbrev|unfoldable|opaque) )*(?:pub )?(?:data |record )?{re.escape(name)}(?![^\\s:({{])")
+            if counts[name] <= sum(1 for l in text[path] if own.match(l)):
                 yield path, name
 
 

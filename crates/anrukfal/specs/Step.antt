@@ -4,11 +4,7 @@ use mathlib.Core.Path.{_≡_}
 use mathlib.Core.List.{List}
 use Rattle.section.specs.Answer.{Told}
 use Rattle.step.specs.Answers.{stepAnswer}
-use Rattle.step.specs.declared.Registers.{Registers}
 use Rattle.step.specs.declared.Stepped.{Stepped}
-
-abbrev pub registersOf : List ℕ → List ℕ → Registers
-registersOf core vfp = record { core = core; vfp = vfp }
 
 -- the answer's number and row, and all 48 registers
 pub record StepTold (x : Stepped) (returned : ℕ) (core vfp row : List ℕ) : Type 0 where

@@ -17,10 +17,11 @@ ghost use Rattle.search.specs.Answers.{searchAnswer};
 ghost use Rattle.search.specs.Search.{searchOf};
 ghost use Rattle.lookup.specs.Answers.{lookedAnswer};
 ghost use Rattle.lookup.specs.Lookup.{lookupOf};
+ghost use Rattle.step.specs.Execute.{registers};
 ghost use Rattle.step.specs.Step.{stepOf};
 ghost use Rattle.audit.specs.Answers.{verdictAnswer};
 ghost use Rattle.audit.specs.Audit.{auditOf};
-ghost use Rattle.anrukfal.specs.Step.{registersOf, StepTold};
+ghost use Rattle.anrukfal.specs.Step.{StepTold};
 ghost use Rattle.bundle.specs.Answers.{bundleAnswer};
 ghost use Rattle.bundle.specs.Bundle.{bundleOf};
 use audit::Verdict;
@@ -30,12 +31,10 @@ use entry::TableRead;
 use instruction::Decoded;
 use lookup::Looked;
 use lsda::SiteFound;
-use pointer::Read;
 use search::Searched;
 use section::Addr;
 use section::Off;
 use step::Arrival;
-use step::Registers;
 
 mod rows;
 
@@ -53,15 +52,12 @@ pub extern "C" fn anrukfal_prel31(word: u32, place: u32) -> u32
 pub extern "C" fn anrukfal_pointer(data: &[u8], at: u32, encoding: u8, row: &mut [u32; 2]) -> u32
     ensures { λ r. ⌜ Told (readAnswer (pointerOf (now («data» .entry)) at encoding)) r (now (row .exit)) ⌝ }
 {
-    match pointer::pointer(data, Off(at), encoding) {
-        Read::Value(value, next) => {
-            *row = [value, next.0];
-            0
-        }
-        Read::Refused(r) => {
-            *row = [0; 2];
-            r.number()
-        }
+    // What compilers write comes first, as a constant: so its reader is inlined here.
+    match encoding {
+        0x01 => rows::pointer_row(pointer::pointer(data, Off(at), 0x01), row),
+        0x03 => rows::pointer_row(pointer::pointer(data, Off(at), 0x03), row),
+        0x09 => rows::pointer_row(pointer::pointer(data, Off(at), 0x09), row),
+        _ => rows::pointer_row(pointer::pointer(data, Off(at), encoding), row),
     }
 }
 
@@ -236,36 +232,26 @@ pub extern "C" fn anrukfal_step<'a>(
     vfp: &mut [u64; 32],
     row: &mut [u32; 2],
 ) -> u32
-    ensures { λ r. ⌜ StepTold (stepOf (image (now (index .entry)) (addr «index_address») (now (table .entry)) (addr «table_address»)) (now (stack .entry)) (addr «stack_address») (registersOf (now (core .entry)) (now (vfp .entry)))) r (now (core .exit)) (now (vfp .exit)) (now (row .exit)) ⌝ }
+    ensures { λ r. ⌜ StepTold (stepOf (image (now (index .entry)) (addr «index_address») (now (table .entry)) (addr «table_address»)) (now (stack .entry)) (addr «stack_address») (registers (now (core .entry)) (now (vfp .entry)))) r (now (core .exit)) (now (vfp .exit)) (now (row .exit)) ⌝ }
 {
-    let core_given = *core;
-    let vfp_given = *vfp;
-    let given = Registers {
-        core: core_given,
-        vfp: vfp_given,
-    };
-    let stepped = step::step(
+    let moved = step::step_in_place(
         index,
         Addr(index_address),
         table,
         Addr(table_address),
         stack,
         Addr(stack_address),
-        given,
+        core,
+        vfp,
     );
-    let registers = stepped.registers;
-    let core_after = registers.core;
-    let vfp_after = registers.vfp;
-    *core = core_after;
-    *vfp = vfp_after;
-    let arrival = stepped.arrival;
+    let arrival = moved.arrival;
     match arrival {
         Arrival::Frame => {
-            *row = [0, stepped.count];
+            *row = [0, moved.count];
             0
         }
         Arrival::CannotUnwind => {
-            *row = [1, stepped.count];
+            *row = [1, moved.count];
             0
         }
         Arrival::Refused(r) => {

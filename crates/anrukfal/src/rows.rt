@@ -4,6 +4,8 @@ ghost use mathlib.Core.List.{_∷_};
 ghost use Rattle.entry.specs.Answers.{personalityValue, contentRow, tableKind, tableRow};
 ghost use Rattle.entry.specs.Parts.{chosen};
 ghost use Rattle.instruction.specs.Answers.{instructionRow};
+ghost use Rattle.section.specs.Answer.{Told};
+ghost use Rattle.pointer.specs.Answers.{readAnswer};
 ghost use Rattle.lsda.specs.Answers.{padNumber, hasAction, actionNumber, siteRow};
 use entry::Content;
 use entry::Held;
@@ -13,7 +15,24 @@ use instruction::Instruction;
 use lsda::Action;
 use lsda::CallSite;
 use lsda::Pad;
+use pointer::Read;
 use section::Addr;
+
+// Value, next position; and the number.
+pub(crate) fn pointer_row(read: Read, row: &mut [u32; 2]) -> u32
+    ensures { λ r. ⌜ Told (readAnswer read) r (now (row .exit)) ⌝ }
+{
+    match read {
+        Read::Value(value, next) => {
+            *row = [value, next.0];
+            0
+        }
+        Read::Refused(r) => {
+            *row = [0; 2];
+            r.number()
+        }
+    }
+}
 
 // Kind, a, b, next position.
 pub(crate) fn instruction_row(i: Instruction, next: u32) -> [u32; 4]

@@ -27,7 +27,8 @@ use Rattle.lookup.specs.Lookup.{sited, lookedAt, lookupOf}
 use Rattle.lookup.specs.declared.Looked.{Looked}
 use Rattle.lookup.proofs.Laws.{lookup-refused, lookup-hit, looked-cannot, looked-compact, looked-generic}
 use Rattle.step.specs.Answers.{arrivalAnswer}
-use Rattle.step.specs.Step.{steppedBy, counterOf, stepOf, Arrives}
+use Rattle.step.specs.Run.{Arrives}
+use Rattle.step.specs.Step.{steppedBy, counterOf, stepOf}
 use Rattle.step.specs.declared.Arrival.{Arrival}
 use Rattle.step.specs.declared.Registers.{Registers}
 use Rattle.step.proofs.Steps.{step-refused, step-hit, cannot-arrives, compact-arrives, generic-arrives}

@@ -9,7 +9,6 @@ use lib.ListN.{length}
 use lib.Dec.{leb, ltb}
 use borrow.Author.Tests.{le-leb, lt-ltb, leb-true, ltb-true}
 use Rattle.section.specs.Pick.{pick}
-use Rattle.section.specs.Rule.{tableMost}
 use Rattle.section.specs.Walk.{Trail, checked, Clean}
 use Rattle.section.specs.declared.Addr.{Addr}
 use Rattle.section.specs.declared.Refusal.{Refusal}
@@ -18,7 +17,6 @@ use Rattle.section.proofs.Picks.{by-test}
 use Rattle.section.proofs.Checks.{no-fault, and-exact, named, need-le}
 use Rattle.section.proofs.Walks.{walk-exact, more-fine, checked-stop}
 use Rattle.pointer.specs.Reads.{NoPointer}
-use Rattle.pointer.proofs.Laws.{not-section}
 use Rattle.lsda.specs.Header.{headerOf}
 use Rattle.lsda.specs.Site.{padOf, actionOf, padFits, actionFits, fitsOf, siteAt, settledOf, PadIn, ActionIn, Fits}
 use Rattle.lsda.specs.Sites.{siteLook, sitesFrom, onHeader, coversOf, findIn, findFrom, callSiteOf, auditFrom, auditSitesOf, CleanSites, Covers, First, Nowhere, Sited, Answered}
@@ -159,25 +157,3 @@ module _ (s : List ℕ) where
 
   pub audit-why : (function : Addr) (r : Refusal) → auditSitesOf s function ≡ Check.Fault r → Faulty (length s) r
   audit-why function r e = rw e at (of-audit s function)
-
-  -- ---- data that is not too long is not refused with 1
-  module _ (l : length s ≤ tableMost) where
-    faulty-short : (r : Refusal) → Faulty (length s) r → r ≡ Refusal.Section → ⊥
-    faulty-short r (Faulty.unread w) e = not-section (length s) r l w e
-    faulty-short r Faulty.sum e = let z : _≡_ {A = ℕ} 0 1 = cc in omega arith
-
-    none-short : (r : Refusal) → NoCallSite (length s) r → r ≡ Refusal.Section → ⊥
-    none-short r (NoCallSite.faulty w) e = faulty-short r w e
-    none-short r NoCallSite.none e = let z : _≡_ {A = ℕ} 0 1 = cc in omega arith
-
-    pub header-short : (function : Addr) → headerOf s function ≡ HeaderRead.Refused Refusal.Section → ⊥
-    header-short function e = not-section (length s) _ l (header-why function _ e) refl
-
-    pub site-short : (h : Header) (at : ℕ) → siteAt s h at ≡ SiteRead.Refused Refusal.Section → ⊥
-    site-short h at e = faulty-short _ (site-why h at _ e) refl
-
-    pub call-short : (function c : Addr) → callSiteOf s function c ≡ SiteFound.Refused Refusal.Section → ⊥
-    call-short function c e = none-short _ (call-why function c _ e) refl
-
-    pub audit-short : (function : Addr) → auditSitesOf s function ≡ Check.Fault Refusal.Section → ⊥
-    audit-short function e = faulty-short _ (audit-why function _ e) refl

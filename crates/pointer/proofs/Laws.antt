@@ -3,7 +3,6 @@ use Prim.Native.Nat.{ℕ, suc, _<_, _≤_}
 use mathlib.Core.Path.{_≡_, refl, ap}
 use mathlib.Core.Bool.{Bool}
 use mathlib.Core.List.{List, [], _∷_}
-use native.Mathlib.Omega.{arith}
 use lib.Dec.{leb, eqb}
 use lib.ListN.{length}
 use borrow.Author.Tests.{le-leb, lt-leb, leb-false, ne-eqb}
@@ -109,10 +108,3 @@ module _ (s : List ℕ) (at : ℕ) where
   pub pointer-on : (e : ℕ) → Pointer (pointerOf s at e)
   unfolding pointerOf
   pointer-on e = sized-on (NoPointer (length s)) NoPointer.long _ (formed-on e)
-
--- data that is not too long is not refused with 1
-pub not-section : (len : ℕ) (r : Refusal) → len ≤ tableMost → NoPointer len r → r ≡ Refusal.Section → ⊥
-not-section len r h (NoPointer.long l) e = omega arith
-not-section len r h NoPointer.truncated e = let z : _≡_ {A = ℕ} 0 1 = cc in omega arith
-not-section len r h NoPointer.encoding e = let z : _≡_ {A = ℕ} 0 1 = cc in omega arith
-not-section len r h NoPointer.value e = let z : _≡_ {A = ℕ} 0 1 = cc in omega arith

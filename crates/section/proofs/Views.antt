@@ -1,10 +1,10 @@
 -- Laws of views. The borrow checker's rule for `&s[a..e]` gives r with the two equations that the laws take, each by `refl`. Assumes nothing.
 use mathlib.Core.Path.{_≡_, refl, sym, _∙_}
-use Prim.Native.Nat.{ℕ, suc, zero, _+_, _-_, _≤_, _<_}
-use mathlib.Core.List.{List, [], _∷_}
+use Prim.Native.Nat.{ℕ, _+_, _-_, _≤_, _<_}
+use mathlib.Core.List.{List}
 use lib.ListN.{length, take, drop, length-drop}
-use lib.Seq.{drop-drop, take-nil, take-take, length-take-le}
-use native.Mathlib.Nat.{add-assoc, add-comm, sub-zero, zero-sub, suc-sub-suc}
+use lib.Seq.{length-take-le}
+use native.Mathlib.Nat.{add-comm}
 use native.Mathlib.Omega.{arith}
 use borrow.Author.Tests.{le-leb, lt-leb}
 use denote.Ref.{RefT, ptr, now}
@@ -44,18 +44,3 @@ pub bytes-length : (s : List ℕ) (a n : ℕ) → a + n ≤ length s → length 
 bytes-length s a n h =
     let k : n ≤ length s - a = omega arith in
     length-take-le n (drop a s) (rw (length-drop a s) k)
-
-drop-of-take : (b n : ℕ) (l : List ℕ) → drop b (take n l) ≡ take (n - b) (drop b l)
-drop-of-take zero n l = simp sub-zero
-drop-of-take (suc b) zero l = simp zero-sub
-drop-of-take (suc b) (suc n) [] = simp take-nil
-drop-of-take (suc b) (suc n) (x ∷ xs) = rw suc-sub-suc (drop-of-take b n xs)
-
--- a part of a part is a part
-pub part-of-part : (s r q : RefT (List ℕ)) (a n b m : ℕ) → Part s r (a, n) → Part r q (b, m) → b + m ≤ n → Part s q (a + b, m)
-part-of-part s r q a n b m x y h =
-    let k : m ≤ n - b = omega arith in
-    record {
-      place = y .place ∙ simp (x .place, add-assoc);
-      bytes = y .bytes ∙ rw (x .bytes, drop-of-take b n (drop a (now s)), take-take m (n - b) (drop b (drop a (now s))) k, drop-drop b a (now s));
-    }

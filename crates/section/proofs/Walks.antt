@@ -5,7 +5,7 @@ use mathlib.Core.Logic.{_↔_}
 use native.Mathlib.Omega.{arith}
 use Rattle.section.specs.Check.{andThen}
 use Rattle.section.proofs.Checks.{and-fine, fine-and, no-fault}
-use Rattle.section.specs.Walk.{Look, Trail, goOn, trailFrom, trailOf, checked, Reached, Sound, Clean, Walked, Upward}
+use Rattle.section.specs.Walk.{Look, Trail, goOn, trailFrom, trailOf, checked, Reached, Sound, Clean, Upward}
 use Rattle.section.specs.declared.Refusal.{Refusal}
 use Rattle.section.specs.declared.Check.{Check}
 use Rattle.section.specs.declared.Check.the-variants.{Fine, Fault}
@@ -97,25 +97,3 @@ module _ {A : Type 0} (P : A → Type 0) (f : A → Check) (same : (a : A) → (
   pub walk-exact : (limit : ℕ) → Upward look limit → (at : ℕ) → (checked f (trailOf look limit at) ≡ Fine) ↔ Clean P look at
   unfolding trailOf
   walk-exact limit up at = (passes-clean limit up (suc limit) at (omega arith, omega arith), clean-passes (suc limit) at)
-
--- a walk over places of any kind that is refused with r after k of them passes exactly if it ends before and is sound
-module _ {S A : Type 0} (P : A → Type 0) (f : A → Check) (same : (a : A) → (f a ≡ Fine) ↔ P a) (look : S → Look S A) (r : Refusal) where
-  passes-walked : (k : ℕ) (s : S) → checked f (trailFrom (Trail.stop r) k look s) ≡ Fine → Walked P look k s
-  unfolding trailFrom checked
-  passes-walked zero s h = no-fault r h
-  passes-walked (suc k) s h = go (look s) refl h (λ m. passes-walked k m)
-    where
-      go : (x : Look S A) → look s ≡ x → checked f (goOn x (λ m. trailFrom (Trail.stop r) k look m)) ≡ Fine → ((m : S) → checked f (trailFrom (Trail.stop r) k look m) ≡ Fine → Walked P look k m) → Walked P look (suc k) s
-      go Look.done e h w = Walked.ends e
-      go (Look.bad q) e h w = no-fault q h
-      go (Look.last a) e h w = Walked.ends-with e (same a .0 (and-fine (f a) Fine h .0))
-      go (Look.item a m) e h w = let g = and-fine (f a) _ h in Walked.goes-on e (same a .0 (g .0)) (w m (g .1))
-
-  walked-passes : (k : ℕ) (s : S) → Walked P look k s → checked f (trailFrom (Trail.stop r) k look s) ≡ Fine
-  unfolding trailFrom checked
-  walked-passes k s (Walked.ends e) = rw e
-  walked-passes k s (Walked.ends-with {a = a} e p) = rw e (fine-and (f a) Fine (same a .1 p) refl)
-  walked-passes k s (Walked.goes-on {k = n} {m = m} {a = a} e p w) = rw e (fine-and (f a) _ (same a .1 p) (walked-passes n m w))
-
-  pub chain-exact : (k : ℕ) (s : S) → (checked f (trailFrom (Trail.stop r) k look s) ≡ Fine) ↔ Walked P look k s
-  chain-exact k s = (passes-walked k s, walked-passes k s)

@@ -58,12 +58,6 @@ pub data Sound {S A : Type 0} (P : A → Type 0) : Look S A → Type 0 where
 abbrev pub Clean : {S A : Type 0} → (A → Type 0) → (S → Look S A) → S → Type 0
 Clean {S} P look from = (q : S) → Reached look from q → Sound P (look q)
 
--- the walk from s ends within k places, and all that it meets is sound: for walks whose places need not rise
-pub data Walked {S A : Type 0} (P : A → Type 0) (look : S → Look S A) : ℕ → S → Type 0 where
-  ends : {k : ℕ} {s : S} → look s ≡ done → Walked P look (suc k) s
-  ends-with : {k : ℕ} {s : S} {a : A} → look s ≡ last a → P a → Walked P look (suc k) s
-  goes-on : {k : ℕ} {s m : S} {a : A} → look s ≡ item a m → P a → Walked P look k m → Walked P look (suc k) s
-
 -- each item lies below a limit and leads upward
 abbrev pub Upward : {A : Type 0} → (ℕ → Look ℕ A) → ℕ → Type 0
 Upward {A} look limit = (p m : ℕ) (a : A) → look p ≡ item a m → (p < m) × (p < limit)

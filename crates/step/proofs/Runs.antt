@@ -12,7 +12,7 @@ use Rattle.instruction.specs.declared.Instruction.{Instruction}
 use Rattle.instruction.specs.declared.Decoded.{Decoded}
 use Rattle.instruction.proofs.Program.{program-end, program-refused, program-next, program-starts}
 use Rattle.step.specs.Execute.{Effect, executeOf}
-use Rattle.step.specs.Run.{eitherOf, framed, stopped, runFrom, runOf}
+use Rattle.step.specs.Run.{eitherOf, framed, refusedStep, runFrom, runOf}
 use Rattle.step.specs.declared.Registers.{Registers}
 
 -- an instruction that leads to a next one does not end the walk
@@ -34,7 +34,7 @@ module _ (w st : List ℕ) (base : Addr) (given : Registers) (at : ℕ) (r : Reg
   unfolding runFrom
   run-end e = rw (program-end w at e)
 
-  pub run-stop : (why : Refusal) → decodeOf w at ≡ Decoded.Refused why → runFrom (programOf w at) st base given r loaded n ≡ stopped given why
+  pub run-stop : (why : Refusal) → decodeOf w at ≡ Decoded.Refused why → runFrom (programOf w at) st base given r loaded n ≡ refusedStep given why
   unfolding runFrom
   run-stop why e = rw (program-refused w at why e)
 
@@ -47,7 +47,7 @@ module _ (w st : List ℕ) (base : Addr) (given : Registers) (at : ℕ) (r : Reg
     unfolding runFrom
     run-finish r' h = rw (program-starts w at i m e .1, h)
 
-    pub run-refuse : (why : Refusal) → executeOf st base r i ≡ Effect.refused why → runFrom (programOf w at) st base given r loaded n ≡ stopped given why
+    pub run-refuse : (why : Refusal) → executeOf st base r i ≡ Effect.refused why → runFrom (programOf w at) st base given r loaded n ≡ refusedStep given why
     unfolding runFrom
     run-refuse why h = rw (program-starts w at i m e .1, h)
 
@@ -56,6 +56,6 @@ module _ (w : List ℕ) (skip : ℕ) (st : List ℕ) (base : Addr) (given : Regi
   unfolding runOf
   run-from h = rw (le-leb skip 2 h)
 
-  pub run-over : 2 < skip → runOf w skip st base given ≡ stopped given Refusal.Section
+  pub run-over : 2 < skip → runOf w skip st base given ≡ refusedStep given Refusal.Section
   unfolding runOf
   run-over h = rw (lt-leb skip 2 h)

@@ -17,35 +17,19 @@ use Rattle.search.specs.declared.Hit.{Hit}
 use Rattle.search.specs.declared.Searched.{Searched}
 use Rattle.search.proofs.Laws.{found-led}
 use Rattle.instruction.specs.Program.{auditInstructionsOf}
-use Rattle.step.specs.Run.{runOf, Ending}
-use Rattle.step.specs.Step.{refusedStep, arrivalOf, arrived, ranBy, steppedBy, counterOf, stepOf, Arrives}
+use Rattle.step.specs.Run.{refusedStep, runOf, Arrives}
+use Rattle.step.specs.Step.{ranBy, steppedBy, counterOf, stepOf}
 use Rattle.step.specs.declared.Registers.{Registers}
 use Rattle.step.specs.declared.Stepped.{Stepped}
 use Rattle.step.specs.declared.Arrival.{Arrival}
-use Rattle.step.specs.declared.run.End.{End}
-use Rattle.step.specs.declared.run.Ran.{Ran}
 use Rattle.step.proofs.Clean.{clean-run}
 
--- the run x of a span's words, w, and the step y that it is
-module _ (xs ys st : List ℕ) (base : Addr) (given : Registers) (s : Span) {w : List ℕ} (words : w ≡ wordsIn (chosen (s .held) xs ys) s)
-    {x : Ran} (ran : x ≡ runOf w (s .skip) st base given) {y : Stepped} (told : y ≡ arrived x) where
-  ran-by : y ≡ ranBy xs ys st base given s
-  ran-by = told ∙ ap arrived (ran ∙ ap (λ (l : List ℕ). runOf l (s .skip) st base given) words)
-
-  pub stepped-compact : (f : Addr) (n : ℕ) → y ≡ steppedBy xs ys st base given (Found.Compact f n s)
-  unfolding steppedBy
-  stepped-compact f n = ran-by
-
-  pub stepped-generic : (f p : Addr) (o : Off) → y ≡ steppedBy xs ys st base given (Found.Generic f p s o)
-  unfolding steppedBy
-  stepped-generic f p o = ran-by
+-- the run of a span's words, w, is the step by the span
+pub span-ran : (xs ys st : List ℕ) (base : Addr) (given : Registers) (s : Span) {w : List ℕ} → w ≡ wordsIn (chosen (s .held) xs ys) s → {x : Stepped}
+    → runOf w (s .skip) st base given ≡ x → x ≡ ranBy xs ys st base given s
+span-ran xs ys st base given s words ran = sym ran ∙ ap (λ (l : List ℕ). runOf l (s .skip) st base given) words
 
 -- ---- where a step leads, by what the entry leads to
-arrives : (e : End) → Ending e → Arrives (arrivalOf e)
-arrives e Ending.frame = Arrives.frame
-arrives e Ending.refused = Arrives.refused
-arrives e Ending.stack = Arrives.stack
-
 module _ (xs ys st : List ℕ) (base : Addr) (given : Registers) where
   pub cannot-arrives : (f : Addr) → steppedBy xs ys st base given (Found.CannotUnwind f) .arrival ≡ Arrival.CannotUnwind
   unfolding steppedBy
@@ -53,7 +37,7 @@ module _ (xs ys st : List ℕ) (base : Addr) (given : Registers) where
 
   module _ (s : Span) (clean : auditInstructionsOf (wordsIn (chosen (s .held) xs ys) s) (s .skip) ≡ Check.Fine) where
     ran-arrives : Arrives (ranBy xs ys st base given s .arrival)
-    ran-arrives = arrives _ (clean-run (wordsIn (chosen (s .held) xs ys) s) (s .skip) st base given clean)
+    ran-arrives = clean-run (wordsIn (chosen (s .held) xs ys) s) (s .skip) st base given clean
 
     pub compact-arrives : (f : Addr) (n : ℕ) → Arrives (steppedBy xs ys st base given (Found.Compact f n s) .arrival)
     unfolding steppedBy

@@ -12,8 +12,9 @@ use Rattle.instruction.specs.Program.{programOf}
 use Rattle.instruction.specs.declared.Instruction.{Instruction}
 use Rattle.step.specs.Execute.{registers, onEffect, executeOf}
 use Rattle.step.specs.declared.Registers.{Registers}
+use Rattle.step.specs.declared.Arrival.{Arrival}
+use Rattle.step.specs.declared.Stepped.{Stepped}
 use Rattle.step.specs.declared.run.End.{End}
-use Rattle.step.specs.declared.run.Ran.{Ran}
 
 abbrev pub eitherOf : Bool → Bool → Bool
 eitherOf true b = true
@@ -24,40 +25,48 @@ abbrev pub linked : List ℕ → Bool → List ℕ
 linked core loaded = pick loaded core (set core 15 (getD core 14 0))
 
 -- Finish or the end of the bytes: the next frame, with the number of instructions executed
-abbrev pub framed : Registers → Bool → ℕ → Ran
-framed r loaded n = record { end = End.Frame; registers = registers (linked (r .core) loaded) (r .vfp); count = n }
+abbrev pub framed : Registers → Bool → ℕ → Stepped
+framed r loaded n = record { arrival = Arrival.Frame; registers = registers (linked (r .core) loaded) (r .vfp); count = n }
 
--- a refusal carries the registers given, and zero
-abbrev pub stopped : Registers → Refusal → Ran
-stopped given why = record { end = End.Refused why; registers = given; count = 0 }
+-- the registers given, and count 0
+abbrev pub handed : Registers → Arrival → Stepped
+handed given a = record { arrival = a; registers = given; count = 0 }
+
+abbrev pub refusedStep : Registers → Refusal → Stepped
+refusedStep given r = handed given (Arrival.Refused r)
 
 -- the instructions in turn; r, loaded and n are the registers, whether 15 was loaded, and how many were executed so far. Finish counts, a bare end does not
-unfoldable pub runFrom : Trail Instruction → List ℕ → Addr → Registers → Registers → Bool → ℕ → Ran
+unfoldable pub runFrom : Trail Instruction → List ℕ → Addr → Registers → Registers → Bool → ℕ → Stepped
 runFrom Trail.end st base given r loaded n = framed r loaded n
-runFrom (Trail.stop why) st base given r loaded n = stopped given why
+runFrom (Trail.stop why) st base given r loaded n = refusedStep given why
 runFrom (Trail.more i t) st base given r loaded n =
     onEffect (executeOf st base r i)
     (λ r' pc. runFrom t st base given r' (eitherOf loaded pc) (n + 1))
     (λ r'. framed r' loaded (n + 1))
-    (stopped given)
+    (refusedStep given)
 
 -- a skip over 2 is 1
-unfoldable pub runOf : List ℕ → ℕ → List ℕ → Addr → Registers → Ran
+unfoldable pub runOf : List ℕ → ℕ → List ℕ → Addr → Registers → Stepped
 runOf w skip st base given =
-    pick (leb skip 2) (runFrom (programOf w skip) st base given given false 0) (stopped given Refusal.Section)
+    pick (leb skip 2) (runFrom (programOf w skip) st base given given false 0) (refusedStep given Refusal.Section)
 
--- ---- how a frame ends where the audit passes its instructions: the next frame, the refusal that the instructions themselves ask, or the stack
-pub data Ending : End → Type 0 where
-  frame : Ending End.Frame
-  refused : Ending (End.Refused Refusal.Refused)
-  stack : Ending (End.Refused Refusal.Stack)
+-- the step that code reports: how its run ended, and the registers as it leaves them. A refusal hands back those given
+abbrev pub endsAs : Registers → End → List ℕ → List ℕ → Stepped
+endsAs given (End.Frame n) core vfp = record { arrival = Arrival.Frame; registers = registers core vfp; count = n }
+endsAs given (End.Refused why) core vfp = refusedStep given why
 
--- and how it ends on any whole words, from a skip of at most 2
-pub data Ended : End → Type 0 where
-  frame : Ended End.Frame
-  refused : Ended (End.Refused Refusal.Refused)
-  reserved : Ended (End.Refused Refusal.Reserved)
-  unsupported : Ended (End.Refused Refusal.Unsupported)
-  malformed : Ended (End.Refused Refusal.Malformed)
-  regs : Ended (End.Refused Refusal.Regs)
-  stack : Ended (End.Refused Refusal.Stack)
+-- ---- where instructions lead that the audit passes: to the next frame, the refusal that they themselves ask, or the stack's
+pub data Arrives : Arrival → Type 0 where
+  frame : Arrives Arrival.Frame
+  refused : Arrives (Arrival.Refused Refusal.Refused)
+  stack : Arrives (Arrival.Refused Refusal.Stack)
+
+-- and where any whole words lead, from a skip of at most 2
+pub data Ended : Arrival → Type 0 where
+  frame : Ended Arrival.Frame
+  refused : Ended (Arrival.Refused Refusal.Refused)
+  reserved : Ended (Arrival.Refused Refusal.Reserved)
+  unsupported : Ended (Arrival.Refused Refusal.Unsupported)
+  malformed : Ended (Arrival.Refused Refusal.Malformed)
+  regs : Ended (Arrival.Refused Refusal.Regs)
+  stack : Ended (Arrival.Refused Refusal.Stack)

@@ -6,37 +6,29 @@ use Rattle.section.specs.Check.{onCheck}
 use Rattle.section.specs.Place.{addr}
 use Rattle.section.specs.Rule.{stackRule}
 use Rattle.section.specs.declared.Addr.{Addr}
-use Rattle.section.specs.declared.Refusal.{Refusal}
 use Rattle.entry.specs.Parts.{chosen, wordsIn}
 use Rattle.entry.specs.declared.Span.{Span}
 use Rattle.image.specs.Image.{Image, sectionsOf, entryAt}
 use Rattle.image.specs.declared.Found.{Found}
 use Rattle.search.specs.Search.{searchOf, onSearched}
-use Rattle.step.specs.Run.{runOf}
+use Rattle.step.specs.Execute.{registers}
+use Rattle.step.specs.Run.{handed, refusedStep, runOf}
 use Rattle.step.specs.declared.Registers.{Registers}
 use Rattle.step.specs.declared.Arrival.{Arrival}
 use Rattle.step.specs.declared.Stepped.{Stepped}
-use Rattle.step.specs.declared.run.End.{End}
-use Rattle.step.specs.declared.run.Ran.{Ran}
+use Rattle.step.specs.declared.Moved.{Moved}
 
--- the registers given, and count 0
-abbrev pub handed : Registers → Arrival → Stepped
-handed given a = record { arrival = a; registers = given; count = 0 }
+-- a step in place, with the registers as it leaves them
+abbrev pub stands : Moved → List ℕ → List ℕ → Stepped
+stands m core vfp = record { arrival = m .arrival; registers = registers core vfp; count = m .count }
 
-abbrev pub refusedStep : Registers → Refusal → Stepped
-refusedStep given r = handed given (Arrival.Refused r)
-
--- how a run ended
-abbrev pub arrivalOf : End → Arrival
-arrivalOf End.Frame = Arrival.Frame
-arrivalOf (End.Refused r) = Arrival.Refused r
-
-abbrev pub arrived : Ran → Stepped
-arrived x = record { arrival = arrivalOf (x .end); registers = x .registers; count = x .count }
+-- one that leaves them as they were
+abbrev pub stayed : Arrival → Moved
+stayed a = record { arrival = a; count = 0 }
 
 -- the instructions of a span, from whichever section holds them
 abbrev pub ranBy : List ℕ → List ℕ → List ℕ → Addr → Registers → Span → Stepped
-ranBy xs ys st base given s = arrived (runOf (wordsIn (chosen (s .held) xs ys) s) (s .skip) st base given)
+ranBy xs ys st base given s = runOf (wordsIn (chosen (s .held) xs ys) s) (s .skip) st base given
 
 -- cannot-unwind hands back the registers given; a step reads instructions and no language data
 unfoldable pub steppedBy : List ℕ → List ℕ → List ℕ → Addr → Registers → Found → Stepped
@@ -56,9 +48,3 @@ stepOf i st base given =
     (onSearched (searchOf (i .index) (i .indexAt) (counterOf given)) (λ h. steppedBy (i .index) (i .table) st base given (entryAt i (h .entry))) (refusedStep given))
     (refusedStep given))
     (refusedStep given)
-
--- ---- where a step leads by instructions that the audit passes: the next frame, 12 or 17
-pub data Arrives : Arrival → Type 0 where
-  frame : Arrives Arrival.Frame
-  refused : Arrives (Arrival.Refused Refusal.Refused)
-  stack : Arrives (Arrival.Refused Refusal.Stack)

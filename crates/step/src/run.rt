@@ -3,25 +3,18 @@ ghost use mathlib.Core.Path.{_≡_};
 ghost use Prim.Native.Nat.{_≤_};
 ghost use lib.ListN.{length};
 ghost use Rattle.section.specs.Rule.{stackMost};
-ghost use Rattle.step.specs.Run.{eitherOf, framed, stopped, runOf};
 ghost use Rattle.step.specs.Execute.{registers};
-use crate::Registers;
+ghost use Rattle.step.specs.Run.{eitherOf, linked, runOf, endsAs};
 use crate::execute::Outcome;
 use crate::execute::execute;
 use instruction::Decoded;
 use section::Addr;
 use section::Refusal;
 
-// How a run ends.
+// How a run ends: with the next frame after so many instructions, or refused. After a refusal the registers are not used again.
 pub(crate) enum End {
-    Frame,
+    Frame(u32),
     Refused(Refusal),
-}
-
-pub(crate) struct Ran {
-    pub end: End,
-    pub registers: Registers,
-    pub count: u32,
 }
 
 fn either(a: bool, b: bool) -> bool
@@ -34,40 +27,14 @@ fn either(a: bool, b: bool) -> bool
 }
 
 // At the end of a frame 15 takes 14, unless it was loaded.
-fn frame(core: [u32; 16], vfp: [u64; 32], loaded: bool, count: u32) -> Ran
-    ensures { λ x. ⌜ x ≡ framed (registers core vfp) loaded count ⌝ }
+fn frame(core: &mut [u32; 16], loaded: bool, count: u32) -> End
+    ensures { λ x. ⌜ (x ≡ End.Frame count) × (now (core .exit) ≡ linked (now (core .entry)) loaded) ⌝ }
 {
-    let mut out = core;
     if loaded {
-        return Ran {
-            end: End::Frame,
-            registers: Registers {
-                core: out,
-                vfp: vfp,
-            },
-            count: count,
-        };
+        return End::Frame(count);
     }
-    out[15] = out[14];
-    Ran {
-        end: End::Frame,
-        registers: Registers {
-            core: out,
-            vfp: vfp,
-        },
-        count: count,
-    }
-}
-
-// A refusal hands back the registers given.
-fn stop(given: Registers, why: Refusal) -> Ran
-    ensures { λ x. ⌜ x ≡ stopped given why ⌝ }
-{
-    Ran {
-        end: End::Refused(why),
-        registers: given,
-        count: 0,
-    }
+    core[15] = core[14];
+    End::Frame(count)
 }
 
 // Executes instructions until Finish, the end of the bytes or a refusal, and counts them.
@@ -76,26 +43,25 @@ pub(crate) fn run(
     skip: u32,
     stack: &[u8],
     stack_address: Addr,
-    given: Registers,
-) -> Ran
+    core: &mut [u32; 16],
+    vfp: &mut [u64; 32],
+) -> End
     requires { ⌜ length (now stack) ≤ stackMost ⌝ }
-    ensures { λ x. ⌜ x ≡ runOf (now (words .entry)) skip (now (stack .entry)) «stack_address» given ⌝ }
+    ensures { λ x. ⌜ runOf (now (words .entry)) skip (now (stack .entry)) «stack_address» (registers (now (core .entry)) (now (vfp .entry))) ≡ endsAs (registers (now (core .entry)) (now (vfp .entry))) x (now (core .exit)) (now (vfp .exit)) ⌝ }
 {
     if 2 < skip {
-        return stop(given, Refusal::Section);
+        return End::Refused(Refusal::Section);
     }
-    let mut core = given.core;
-    let mut vfp = given.vfp;
     let mut at = skip;
     let mut loaded = false;
     let mut count: u32 = 0;
     loop {
         match instruction::decode(words, at) {
-            Decoded::End => return frame(core, vfp, loaded, count),
-            Decoded::Refused(r) => return stop(given, r),
-            Decoded::Step(i, next) => match execute(stack, stack_address, &mut core, &mut vfp, i) {
-                Outcome::Refused(r) => return stop(given, r),
-                Outcome::Finished => return frame(core, vfp, loaded, count + 1),
+            Decoded::End => return frame(core, loaded, count),
+            Decoded::Refused(r) => return End::Refused(r),
+            Decoded::Step(i, next) => match execute(stack, stack_address, core, vfp, i) {
+                Outcome::Refused(r) => return End::Refused(r),
+                Outcome::Finished => return frame(core, loaded, count + 1),
                 Outcome::Next(pc) => {
                     loaded = either(loaded, pc);
                     at = next;

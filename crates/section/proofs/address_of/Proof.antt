@@ -1,12 +1,11 @@
+-- The wrapping sum is the definition. Assumes nothing.
 use borrow.Author.Needs.{needs}
 use Rattle.section.proofs.address_of.Statement.{statement}
 use Rattle.section.proofs.address_of.Tie as tie
 
--- src/lib.rt:127:10
 wrapping-add-u32-requires : tie.Need-wrapping-add-u32-requires
 wrapping-add-u32-requires c κs = search needs
 
--- src/lib.rt:124:1
 returns : tie.Need-returns
 returns c = cc
 

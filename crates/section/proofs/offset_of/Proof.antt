@@ -1,3 +1,4 @@
+-- One law for each answer: below the section, inside it, and past its end. Assumes nothing.
 use mathlib.Core.Path.{sym}
 use native.Mathlib.Omega.{arith}
 use Rattle.section.proofs.Places.{offset-in, offset-past, offset-below}
@@ -5,19 +6,15 @@ use borrow.Author.Needs.{needs}
 use Rattle.section.proofs.offset_of.Statement.{statement}
 use Rattle.section.proofs.offset_of.Tie as tie
 
--- src/lib.rt:141:9
 returns : tie.Need-returns
 returns c = sym (offset-below _ _ _ (omega arith))
 
--- src/lib.rt:144:9
 cast-if2 : tie.Need-cast-if2
 cast-if2 c = search needs
 
--- src/lib.rt:137:1
 returns-2 : tie.Need-returns-2
 returns-2 c = sym (offset-in _ _ _ (omega arith) (omega arith))
 
--- src/lib.rt:137:1
 returns-3 : tie.Need-returns-3
 returns-3 c = sym (offset-past _ _ _ (omega arith) (omega arith))
 

@@ -1,3 +1,4 @@
+-- The bytes are there exactly where the definition says so, and else the empty part is at the start. Assumes nothing.
 use mathlib.Core.Path.{refl}
 use native.Mathlib.Omega.{arith}
 use Rattle.section.proofs.Views.{view-made, spot-in, spot-out}
@@ -5,59 +6,45 @@ use borrow.Author.Needs.{needs}
 use Rattle.section.proofs.part.Statement.{statement}
 use Rattle.section.proofs.part.Tie as tie
 
--- src/lib.rt:218:17
 sub-if2 : tie.Need-sub-if2
 sub-if2 c = search needs
 
--- src/lib.rt:219:19
 add-result : tie.Need-add-result
 add-result c = search needs
 
--- src/lib.rt:219:13
 sub-result : tie.Need-sub-result
 sub-result c = search needs
 
--- src/lib.rt:219:13
 part-result-start : tie.Need-part-result-start
 part-result-start c = search needs
 
--- src/lib.rt:219:13
 part-result-end : tie.Need-part-result-end
 part-result-end c = search needs
 
--- src/lib.rt:221:13
 sub-result-2 : tie.Need-sub-result-2
 sub-result-2 c = search needs
 
--- src/lib.rt:221:13
 part-result-start-2 : tie.Need-part-result-start-2
 part-result-start-2 c = search needs
 
--- src/lib.rt:221:13
 part-result-end-2 : tie.Need-part-result-end-2
 part-result-end-2 c = search needs
 
--- src/lib.rt:224:9
 sub-result-3 : tie.Need-sub-result-3
 sub-result-3 c = search needs
 
--- src/lib.rt:224:9
 part-result-start-3 : tie.Need-part-result-start-3
 part-result-start-3 c = search needs
 
--- src/lib.rt:224:9
 part-result-end-3 : tie.Need-part-result-end-3
 part-result-end-3 c = search needs
 
--- src/lib.rt:214:1
 returns : tie.Need-returns
 returns c = view-made _ _ _ _ _ _ (spot-in _ _ _ (omega arith)) (omega arith) refl refl
 
--- src/lib.rt:214:1
 returns-2 : tie.Need-returns-2
 returns-2 c = view-made _ _ 0 0 0 _ (spot-out _ _ _ (omega arith)) refl refl refl
 
--- src/lib.rt:214:1
 returns-3 : tie.Need-returns-3
 returns-3 c = view-made _ _ 0 0 0 _ (spot-out _ _ _ (omega arith)) refl refl refl
 

@@ -1,3 +1,4 @@
+-- All from a on where a lies in the section, and else the empty part at the start. Assumes nothing.
 use mathlib.Core.Path.{refl}
 use native.Mathlib.Omega.{arith}
 use Rattle.section.proofs.Views.{view-made, suffix-in, suffix-out}
@@ -5,35 +6,27 @@ use borrow.Author.Needs.{needs}
 use Rattle.section.proofs.suffix.Statement.{statement}
 use Rattle.section.proofs.suffix.Tie as tie
 
--- src/lib.rt:232:23
 sub-result : tie.Need-sub-result
 sub-result c = search needs
 
--- src/lib.rt:232:23
 part-result-start : tie.Need-part-result-start
 part-result-start c = search needs
 
--- src/lib.rt:232:23
 part-result-end : tie.Need-part-result-end
 part-result-end c = search needs
 
--- src/lib.rt:232:40
 sub-result-2 : tie.Need-sub-result-2
 sub-result-2 c = search needs
 
--- src/lib.rt:232:40
 part-result-start-2 : tie.Need-part-result-start-2
 part-result-start-2 c = search needs
 
--- src/lib.rt:232:40
 part-result-end-2 : tie.Need-part-result-end-2
 part-result-end-2 c = search needs
 
--- src/lib.rt:229:1
 returns : tie.Need-returns
 returns c = view-made _ _ _ _ _ _ (suffix-in _ _ (omega arith)) refl refl refl
 
--- src/lib.rt:229:1
 returns-2 : tie.Need-returns-2
 returns-2 c = view-made _ _ 0 0 0 _ (suffix-out _ _ (omega arith)) refl refl refl
 

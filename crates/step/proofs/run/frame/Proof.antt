@@ -1,19 +1,20 @@
--- `step::run::frame` meets its contract: 15 takes 14 exactly where it was not loaded. Assumes nothing.
+-- 15 takes 14 exactly where it was not loaded. Assumes nothing.
+use mathlib.Core.Path.{refl}
 use borrow.Author.Needs.{needs}
 use Rattle.step.proofs.run.frame.Statement.{statement}
 use Rattle.step.proofs.run.frame.Tie as tie
 
 returns : tie.Need-returns
-returns c = rw (c .if1 .taken)
+returns c = (refl, rw (c .if1 .taken))
 
-array-read-out : tie.Need-array-read-out
-array-read-out c = search needs
+element-copy-out-core : tie.Need-element-copy-out-core
+element-copy-out-core c = search needs
 
-array-write-out : tie.Need-array-write-out
-array-write-out c = search needs
+element-write-core : tie.Need-element-write-core
+element-write-core c = search needs
 
 returns-2 : tie.Need-returns-2
-returns-2 c = rw (c .if1 .left)
+returns-2 c = (refl, rw (c .before .if1 .left))
 
 pub frame-spec : {M : Type 1} → statement M
-frame-spec = tie.close (tie.spec returns array-read-out array-write-out returns-2)
+frame-spec = tie.close (tie.spec returns element-copy-out-core element-write-core returns-2)
