@@ -52,11 +52,11 @@ pub extern "C" fn anrukfal_prel31(word: u32, place: u32) -> u32
 pub extern "C" fn anrukfal_pointer(data: &[u8], at: u32, encoding: u8, row: &mut [u32; 2]) -> u32
     ensures { λ r. ⌜ Told (readAnswer (pointerOf (now («data» .entry)) at encoding)) r (now (row .exit)) ⌝ }
 {
-    // What compilers write comes first, as a constant: so its reader is inlined here.
+    // What compilers write has its own arm: with a constant encoding its reader is inlined here.
     match encoding {
         0x01 => rows::pointer_row(pointer::pointer(data, Off(at), 0x01), row),
         0x03 => rows::pointer_row(pointer::pointer(data, Off(at), 0x03), row),
-        0x09 => rows::pointer_row(pointer::pointer(data, Off(at), 0x09), row),
+        0x09 => rows::pointer_row(pointer::sleb(data, Off(at)), row),
         _ => rows::pointer_row(pointer::pointer(data, Off(at), encoding), row),
     }
 }

@@ -100,7 +100,7 @@ pub(crate) enum Pair {
     Refused(Refusal),
 }
 
-pub(crate) fn pair_at(data: &[u8], first: u8, second: u8, at: Off) -> Pair
+fn pair_at(data: &[u8], first: u8, second: u8, at: Off) -> Pair
     ensures { λ r. ⌜ r ≡ pairAt (now («data» .entry)) first second (at .0) ⌝ }
 {
     match pointer::pointer(data, at, first) {
@@ -109,5 +109,25 @@ pub(crate) fn pair_at(data: &[u8], first: u8, second: u8, at: Off) -> Pair
             Read::Refused(r) => Pair::Refused(r),
             Read::Value(w, next) => Pair::Of(v, w, next),
         },
+    }
+}
+
+// A site's start and length. ULEBs are what compilers write: with a constant encoding their reader is inlined here.
+pub(crate) fn range_at(data: &[u8], encoding: u8, at: Off) -> Pair
+    ensures { λ r. ⌜ r ≡ pairAt (now («data» .entry)) encoding encoding (at .0) ⌝ }
+{
+    match encoding {
+        0x01 => pair_at(data, 0x01, 0x01, at),
+        _ => pair_at(data, encoding, encoding, at),
+    }
+}
+
+// Its pad, and its action, which always is a ULEB.
+pub(crate) fn landing_at(data: &[u8], encoding: u8, at: Off) -> Pair
+    ensures { λ r. ⌜ r ≡ pairAt (now («data» .entry)) encoding 0x01 (at .0) ⌝ }
+{
+    match encoding {
+        0x01 => pair_at(data, 0x01, 0x01, at),
+        _ => pair_at(data, encoding, 0x01, at),
     }
 }

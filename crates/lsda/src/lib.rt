@@ -94,9 +94,9 @@ pub fn site_at(data: &[u8], header: Header, at: Off) -> SiteRead
     if header.end <= at.0 as u64 {
         return SiteRead::Done;
     }
-    match fields::pair_at(data, header.encoding, header.encoding, at) {
+    match fields::range_at(data, header.encoding, at) {
         Pair::Refused(r) => SiteRead::Refused(r),
-        Pair::Of(start, length, p) => match fields::pair_at(data, header.encoding, 0x01, p) {
+        Pair::Of(start, length, p) => match fields::landing_at(data, header.encoding, p) {
             Pair::Refused(r) => SiteRead::Refused(r),
             Pair::Of(pad, action, next) => {
                 sites::summed(header.base, start, length, pad, action, next)

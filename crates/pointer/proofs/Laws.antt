@@ -108,3 +108,8 @@ module _ (s : List ℕ) (at : ℕ) where
   pub pointer-on : (e : ℕ) → Pointer (pointerOf s at e)
   unfolding pointerOf
   pointer-on e = sized-on (NoPointer (length s)) NoPointer.long _ (formed-on e)
+
+  -- the SLEB of the table of forms is the SLEB
+  pub pointer-sleb : pointerOf s at 0x09 ≡ slebOf s at
+  unfolding pointerOf slebOf
+  pointer-sleb = refl

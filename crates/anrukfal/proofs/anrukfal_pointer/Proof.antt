@@ -1,4 +1,5 @@
 -- Each arm reads by the encoding that it was told, and writes the row of what it read. Assumes nothing.
+use Rattle.pointer.proofs.Laws.{pointer-sleb}
 use borrow.Author.Needs.{needs}
 use Rattle.anrukfal.proofs.anrukfal_pointer.Statement.{statement}
 use Rattle.anrukfal.proofs.anrukfal_pointer.Tie as tie
@@ -15,14 +16,14 @@ pointer-requires-2 c κs = search needs
 pointer-row-requires-2 : tie.Need-pointer-row-requires-2
 pointer-row-requires-2 c κs = search needs
 
-pointer-requires-3 : tie.Need-pointer-requires-3
-pointer-requires-3 c κs = search needs
+sleb-requires : tie.Need-sleb-requires
+sleb-requires c κs = search needs
 
 pointer-row-requires-3 : tie.Need-pointer-row-requires-3
 pointer-row-requires-3 c κs = search needs
 
-pointer-requires-4 : tie.Need-pointer-requires-4
-pointer-requires-4 c κs = search needs
+pointer-requires-3 : tie.Need-pointer-requires-3
+pointer-requires-3 c κs = search needs
 
 pointer-row-requires-4 : tie.Need-pointer-row-requires-4
 pointer-row-requires-4 c κs = search needs
@@ -34,10 +35,10 @@ returns-2 : tie.Need-returns-2
 returns-2 c = rw (c .before .before .before .match .keys2, ← (c .before .before .pointer2 .ensures)) (c .pointer-row2 .ensures)
 
 returns-3 : tie.Need-returns-3
-returns-3 c = rw (c .before .before .before .match .keys3, ← (c .before .before .pointer3 .ensures)) (c .pointer-row3 .ensures)
+returns-3 c = rw (c .before .before .before .match .keys3, pointer-sleb _ _, ← (c .before .before .sleb .ensures)) (c .pointer-row3 .ensures)
 
 returns-4 : tie.Need-returns-4
-returns-4 c = rw (← (c .before .before .pointer4 .ensures)) (c .pointer-row4 .ensures)
+returns-4 c = rw (← (c .before .before .pointer3 .ensures)) (c .pointer-row4 .ensures)
 
 pub anrukfal-pointer-spec : {M : Type 1} → statement M
 anrukfal-pointer-spec =
@@ -47,9 +48,9 @@ anrukfal-pointer-spec =
     pointer-row-requires
     pointer-requires-2
     pointer-row-requires-2
-    pointer-requires-3
+    sleb-requires
     pointer-row-requires-3
-    pointer-requires-4
+    pointer-requires-3
     pointer-row-requires-4
     returns
     returns-2

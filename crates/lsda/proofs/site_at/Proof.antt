@@ -16,8 +16,8 @@ cast-if2 c = search needs
 returns-2 : tie.Need-returns-2
 returns-2 c = sym (site-past _ _ _ (omega arith) (omega arith))
 
-pair-at-requires : tie.Need-pair-at-requires
-pair-at-requires c κs = search needs
+range-at-requires : tie.Need-range-at-requires
+range-at-requires c κs = search needs
 
 enum-known-r : tie.Need-enum-known-r
 enum-known-r c = search needs
@@ -25,8 +25,8 @@ enum-known-r c = search needs
 enum-known-start : tie.Need-enum-known-start
 enum-known-start c = search needs
 
-pair-at-requires-2 : tie.Need-pair-at-requires-2
-pair-at-requires-2 c κs = search needs
+landing-at-requires : tie.Need-landing-at-requires
+landing-at-requires c κs = search needs
 
 enum-known-r-2 : tie.Need-enum-known-r-2
 enum-known-r-2 c = search needs
@@ -39,15 +39,15 @@ summed-requires c κs = search needs
 
 returns-3 : tie.Need-returns-3
 unfolding fieldsAt
-returns-3 c = sym (site-before _ _ _ (omega arith) (omega arith) ∙ rw (sym (c .before .before .before .pair-at .ensures) ∙ c .before .r .given .1))
+returns-3 c = sym (site-before _ _ _ (omega arith) (omega arith) ∙ rw (sym (c .before .before .before .range-at .ensures) ∙ c .before .r .given .1))
 
 returns-4 : tie.Need-returns-4
 unfolding fieldsAt
-returns-4 c = sym (site-before _ _ _ (omega arith) (omega arith) ∙ rw (sym (c .before .before .before .before .before .before .before .pair-at .ensures) ∙ c .before .before .before .before .before .start .given .1, sym (c .before .before .before .pair-at2 .ensures) ∙ c .before .r2 .given .1))
+returns-4 c = sym (site-before _ _ _ (omega arith) (omega arith) ∙ rw (sym (c .before .before .before .before .before .before .before .range-at .ensures) ∙ c .before .before .before .before .before .start .given .1, sym (c .before .before .before .landing-at .ensures) ∙ c .before .r2 .given .1))
 
 returns-5 : tie.Need-returns-5
 unfolding fieldsAt
-returns-5 c = sym (site-before _ _ _ (omega arith) (omega arith) ∙ rw (sym (c .before .before .before .before .before .before .before .before .pair-at .ensures) ∙ c .before .before .before .before .before .before .start .given .1, sym (c .before .before .before .before .pair-at2 .ensures) ∙ c .before .before .pad .given .1) (sym (c .summed .ensures)))
+returns-5 c = sym (site-before _ _ _ (omega arith) (omega arith) ∙ rw (sym (c .before .before .before .before .before .before .before .before .range-at .ensures) ∙ c .before .before .before .before .before .before .start .given .1, sym (c .before .before .before .before .landing-at .ensures) ∙ c .before .before .pad .given .1) (sym (c .summed .ensures)))
 
 pub site-at-spec : {M : Type 1} → statement M
 site-at-spec =
@@ -56,10 +56,10 @@ site-at-spec =
     returns
     cast-if2
     returns-2
-    pair-at-requires
+    range-at-requires
     enum-known-r
     enum-known-start
-    pair-at-requires-2
+    landing-at-requires
     enum-known-r-2
     enum-known-pad
     summed-requires
