@@ -130,20 +130,12 @@ pub(super) fn opcode(words: &[u8], next: u32, b: u8) -> Decoded
     requires { ⌜ Inside (now words) next ⌝ }
     ensures { λ r. ⌜ r ≡ opcodeOf (now (words .entry)) next b ⌝ }
 {
-    if b <= 0x3F {
-        return Decoded::Step(Instruction::DataPop((b % 64) as u32 * 4 + 4), next);
+    match b / 16 {
+        0 | 1 | 2 | 3 => Decoded::Step(Instruction::DataPop((b % 64) as u32 * 4 + 4), next),
+        4 | 5 | 6 | 7 => Decoded::Step(Instruction::DataPush((b % 64) as u32 * 4 + 4), next),
+        8 => pop_mask(words, next, b),
+        9 => to_sp(next, b),
+        0xA => pop_run(next, b),
+        _ => single(words, next, b),
     }
-    if b <= 0x7F {
-        return Decoded::Step(Instruction::DataPush((b % 64) as u32 * 4 + 4), next);
-    }
-    if b <= 0x8F {
-        return pop_mask(words, next, b);
-    }
-    if b <= 0x9F {
-        return to_sp(next, b);
-    }
-    if b <= 0xAF {
-        return pop_run(next, b);
-    }
-    single(words, next, b)
 }
