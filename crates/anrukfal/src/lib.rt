@@ -195,17 +195,7 @@ pub extern "C" fn anrukfal_lookup(
             0
         }
         Looked::Compact(k, f, held, selector) => {
-            *row = [
-                k,
-                f.0,
-                rows::compact_kind(held),
-                selector as u32,
-                0,
-                0,
-                0,
-                0,
-                0,
-            ];
+            *row = rows::compact_row(k, f, held, selector);
             0
         }
         Looked::Generic(k, f, personality, site) => {

@@ -1,6 +1,6 @@
 // The rows of answers that have kinds.
 ghost use mathlib.Core.Path.{_≡_};
-ghost use mathlib.Core.List.{_∷_};
+ghost use mathlib.Core.List.{[], _∷_};
 ghost use Rattle.entry.specs.Answers.{personalityValue, contentRow, tableKind, tableRow};
 ghost use Rattle.entry.specs.Parts.{chosen};
 ghost use Rattle.instruction.specs.Answers.{instructionRow};
@@ -141,13 +141,30 @@ pub(crate) fn site_row(site: CallSite) -> [u32; 5]
 }
 
 // 1 in the index, 2 in the table.
-pub(crate) fn compact_kind(held: Held) -> u32
+fn compact_kind(held: Held) -> u32
     ensures { λ r. ⌜ r ≡ chosen held 1 2 ⌝ }
 {
     match held {
         Held::Index => 1,
         Held::Table => 2,
     }
+}
+
+// Entry, function, kind, selector.
+pub(crate) fn compact_row(entry: u32, function: Addr, held: Held, selector: u8) -> [u32; 9]
+    ensures { λ r. ⌜ r ≡ entry ∷ function .0 ∷ chosen held 1 2 ∷ selector ∷ 0 ∷ 0 ∷ 0 ∷ 0 ∷ 0 ∷ [] ⌝ }
+{
+    [
+        entry,
+        function.0,
+        compact_kind(held),
+        selector as u32,
+        0,
+        0,
+        0,
+        0,
+        0,
+    ]
 }
 
 // Entry, function, kind, personality address, and the call site's row.

@@ -14,7 +14,7 @@ pub(crate) fn show_number(x: u32) {
     io::print_hex(1, x as u64, 1);
 }
 
-// The answer of a case: its number, and rows of each length.
+// The answer of a case: its number, and rows of each length, as an array that a call has filled keeps its length by its type alone.
 pub(crate) fn show(number: u32) {
     io::write_all(1, b" =");
     show_number(number);

@@ -13,11 +13,8 @@ enum-known-k c = search needs
 enum-known-k-2 : tie.Need-enum-known-k-2
 enum-known-k-2 c = search needs
 
-compact-kind-requires : tie.Need-compact-kind-requires
-compact-kind-requires c κs = search needs
-
-cast-t24 : tie.Need-cast-t24
-cast-t24 c = search needs
+compact-row-requires : tie.Need-compact-row-requires
+compact-row-requires c κs = search needs
 
 enum-known-k-3 : tie.Need-enum-known-k-3
 enum-known-k-3 c = search needs
@@ -35,7 +32,7 @@ returns : tie.Need-returns
 returns c = rw (sym (c .before .before .before .before .lookup .ensures) ∙ c .before .before .k .given .1) (record { number = refl; row = refl })
 
 returns-2 : tie.Need-returns-2
-returns-2 c = rw (sym (c .before .before .before .before .before .lookup .ensures) ∙ c .before .before .before .k2 .given .1, c .before .compact-kind .ensures) (record { number = refl; row = refl })
+returns-2 c = rw (sym (c .before .before .before .before .lookup .ensures) ∙ c .before .before .k2 .given .1) (record { number = refl; row = c .compact-row .ensures })
 
 returns-3 : tie.Need-returns-3
 returns-3 c = rw (sym (c .before .before .before .before .lookup .ensures) ∙ c .before .before .k3 .given .1) (record { number = refl; row = c .generic-row .ensures })
@@ -50,8 +47,7 @@ anrukfal-lookup-spec =
     lookup-requires
     enum-known-k
     enum-known-k-2
-    compact-kind-requires
-    cast-t24
+    compact-row-requires
     enum-known-k-3
     generic-row-requires
     enum-known-r
