@@ -7,7 +7,7 @@ ghost use Rattle.instruction.specs.Program.{auditInstructionsOf, CleanIn
 use section::Check;
 use section::Refusal;
 
-mod audit;
+mod faults;
 mod order;
 mod ranges;
 mod uleb;
@@ -80,10 +80,10 @@ pub fn audit_instructions(words: &[u8], skip: u32) -> Check
         match decode(words, at) {
             Decoded::End => return Check::Fine,
             Decoded::Refused(r) => return Check::Fault(r),
-            Decoded::Step(i, next) => match audit::fault(i) {
+            Decoded::Step(i, next) => match faults::fault(i) {
                 Check::Fault(r) => return Check::Fault(r),
                 Check::Fine => {
-                    if audit::ends(i) {
+                    if faults::ends(i) {
                         return Check::Fine;
                     }
                     at = next;

@@ -1,12 +1,12 @@
--- `instruction::audit::fault` meets its contract: case by case, and a VFP pop by its last register. Assumes nothing.
+-- `instruction::faults::fault` meets its contract: case by case, and a VFP pop by its last register. Assumes nothing.
 use Prim.Native.Nat.{_+_}
 use mathlib.Core.Path.{sym, ap}
 use native.Mathlib.Omega.{arith}
 use borrow.Author.Tests.{le-leb, lt-leb}
 use borrow.Author.Needs.{needs}
 use Rattle.instruction.specs.Program.{faultOf}
-use Rattle.instruction.proofs.audit.fault.Statement.{statement}
-use Rattle.instruction.proofs.audit.fault.Tie as tie
+use Rattle.instruction.proofs.faults.fault.Statement.{statement}
+use Rattle.instruction.proofs.faults.fault.Tie as tie
 
 enum-known-i : tie.Need-enum-known-i
 enum-known-i c = search needs
