@@ -13,7 +13,7 @@ returns : tie.Need-returns
 returns c = rw (c .before .match .keys1) (c .pair-at .ensures)
 
 returns-2 : tie.Need-returns-2
-returns-2 c = search needs
+returns-2 c = c .pair-at2 .ensures
 
 pub range-at-spec : {M : Type 1} → statement M
 range-at-spec = tie.close (tie.spec pair-at-requires pair-at-requires-2 returns returns-2)
