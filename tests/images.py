@@ -2,7 +2,7 @@
 """images.py: real images of the compilers at hand (GCC, clang, Rust; several targets, every level of optimisation), each audited, looked up at every counter and stepped from every
 second one with drawn registers, by the C library and by tests/paper.py.
 
-A compiler that is not there is left out and said so. It needs target/staticlib/libanrukfal.a (`rt staticlib anrukfal`), and lld."""
+A compiler that is not there is left out and said so; where none is, the test fails."""
 import ctypes
 import os
 import random
@@ -17,7 +17,7 @@ import elf2bundle  # noqa: E402
 import paper  # noqa: E402
 
 FIRMWARE = os.path.join(HERE, "../firmware")
-LIBRARY = os.path.join(HERE, "../target/staticlib/libanrukfal.a")
+LIBRARY = os.path.abspath(os.path.join(HERE, "../target/staticlib/libanrukfal.a"))
 CLANG = ["armv7a-none-eabi -mfloat-abi=hard -mfpu=vfpv3", "thumbv7em-none-eabihf -mcpu=cortex-m7", "thumbv6m-none-eabi -mcpu=cortex-m0", "armv5te-none-eabi"]
 RUST = ["armv7a-none-eabi", "thumbv7em-none-eabihf", "thumbv6m-none-eabi", "armv7-unknown-linux-gnueabihf"]
 GCC = ["-mcpu=cortex-m7 -mfpu=fpv5-d16 -mfloat-abi=hard", "-mcpu=cortex-m0", "-mcpu=cortex-a8 -mfpu=vfpv3 -mfloat-abi=hard"]
@@ -90,6 +90,8 @@ def compared(library, image, drawn):
 
 def main():
     drawn, answers, images, entries, missing = random.Random(7), 0, {}, 0, set()
+    if not os.path.exists(LIBRARY):
+        subprocess.run(["rt", "staticlib", "anrukfal"], cwd=HERE, check=True, stdout=subprocess.DEVNULL)
     os.chdir(tempfile.mkdtemp())
     open("cstdint", "w").write(CSTDINT)
     subprocess.run(["cc", "-shared", "-o", "lib.so", "-Wl,--whole-archive", LIBRARY, "-Wl,--no-whole-archive"], check=True)
