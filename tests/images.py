@@ -2,7 +2,7 @@
 """images.py: real images of the compilers at hand (GCC, clang, Rust; several targets, every level of optimisation), each audited, looked up at every counter and stepped from every
 second one with drawn registers, by the C library and by tests/paper.py.
 
-A compiler that is not there is left out and said so; where none is, the test fails."""
+What is not there, or does not build, is left out and said so; where nothing is, the test fails."""
 import ctypes
 import os
 import random
@@ -98,9 +98,13 @@ def main():
     library = Library("./lib.so")
     for compiler, what, steps in commands():
         if not shutil.which(compiler) or not shutil.which(steps[-1].split()[0]):
-            missing.add(compiler)
+            missing.add(f"{compiler} is not here")
             continue
-        image = built("image", steps)
+        try:
+            image = built("image", steps)
+        except subprocess.CalledProcessError:
+            missing.add(f"{compiler} does not build {what}")
+            continue
         try:
             answers += compared(library, image, drawn)
         except AssertionError as why:
@@ -109,8 +113,8 @@ def main():
             return 1
         images[compiler] = images.get(compiler, 0) + 1
         entries += len(image[0]) // 8
-    for compiler in sorted(missing):
-        print(f"left out: {compiler} is not here")
+    for why in sorted(missing):
+        print(f"left out: {why}")
     print(f"images: {', '.join(f'{n} of {c}' for c, n in images.items())}; {entries} entries, all sound; {answers} answers agree")
     print("images: passed" if images else "images: failed")
     return 0 if images else 1
