@@ -68,24 +68,34 @@ class Library:
         return number, list(row), list(core), list(vfp)
 
 
+class Differs(Exception):
+    """Carries the call whose answers differ."""
+
+
+def same(ours, theirs, call):
+    if ours != theirs:
+        raise Differs(call)
+
+
 def compared(library, image, drawn):
     """How many answers agreed; an image of a compiler is sound."""
     index, index_at, table, table_at = image
     whole = index, index_at, table, table_at
-    assert library.audit(image) == paper.audit(*whole) == (0, [0]), "audit"
+    same(paper.audit(*whole), (0, [0]), "audit")
+    same(library.audit(image), (0, [0]), "audit")
     first, last = (paper.function_of(index, index_at, k) for k in (0, len(index) // 8 - 1))
-    same = 1
+    count = 1
     for counter in range(max(first - 4, 0), last + 64):
-        assert library.lookup(image, counter) == paper.answered(9, paper.lookup, *whole, counter), f"lookup {counter:x}"
-        same += 1
+        same(library.lookup(image, counter), paper.answered(9, paper.lookup, *whole, counter), f"lookup {counter:x}")
+        count += 1
         if counter % 2:
             continue
         stack, stack_at = drawn.randbytes(4 * drawn.randrange(1, 80)), 0x20000000
         core = [drawn.choice([stack_at + 4 * drawn.randrange(0, 60), drawn.getrandbits(32)]) for _ in range(15)] + [counter]
         vfp = [drawn.getrandbits(64) for _ in range(32)]
-        assert library.step(image, stack, stack_at, core, vfp) == paper.step(*whole, stack, stack_at, core, vfp), f"step {counter:x}"
-        same += 1
-    return same
+        same(library.step(image, stack, stack_at, core, vfp), paper.step(*whole, stack, stack_at, core, vfp), f"step {counter:x}")
+        count += 1
+    return count
 
 
 def main():
@@ -107,7 +117,7 @@ def main():
             continue
         try:
             answers += compared(library, image, drawn)
-        except AssertionError as why:
+        except Differs as why:
             print(f"{compiler} {what}: {why}")
             print("images: failed")
             return 1

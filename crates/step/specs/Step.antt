@@ -18,14 +18,6 @@ use Rattle.step.specs.declared.Arrival.{Arrival}
 use Rattle.step.specs.declared.Stepped.{Stepped}
 use Rattle.step.specs.declared.Moved.{Moved}
 
--- a step in place, with the registers as it leaves them
-abbrev pub stands : Moved → List ℕ → List ℕ → Stepped
-stands m core vfp = record { arrival = m .arrival; registers = registers core vfp; count = m .count }
-
--- one that leaves them as they were
-abbrev pub stayed : Arrival → Moved
-stayed a = record { arrival = a; count = 0 }
-
 -- the instructions of a span, from whichever section holds them
 abbrev pub ranBy : List ℕ → List ℕ → List ℕ → Addr → Registers → Span → Stepped
 ranBy xs ys st base given s = runOf (wordsIn (chosen (s .held) xs ys) s) (s .skip) st base given
@@ -48,3 +40,12 @@ stepOf i st base given =
     (onSearched (searchOf (i .index) (i .indexAt) (counterOf given)) (λ h. steppedBy (i .index) (i .table) st base given (entryAt i (h .entry))) (refusedStep given))
     (refusedStep given))
     (refusedStep given)
+
+-- ---- what code reports
+-- a step in place, with the registers as it leaves them
+abbrev pub stands : Moved → List ℕ → List ℕ → Stepped
+stands m core vfp = record { arrival = m .arrival; registers = registers core vfp; count = m .count }
+
+-- one that leaves them as they were
+abbrev pub stayed : Arrival → Moved
+stayed a = record { arrival = a; count = 0 }

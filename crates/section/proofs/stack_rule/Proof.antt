@@ -1,0 +1,13 @@
+-- It is the section rule with its own limit. Assumes nothing.
+use borrow.Author.Needs.{needs}
+use Rattle.section.proofs.stack_rule.Statement.{statement}
+use Rattle.section.proofs.stack_rule.Tie as tie
+
+rule-requires : tie.Need-rule-requires
+rule-requires c κs = search needs
+
+returns : tie.Need-returns
+returns c = c .rule .ensures
+
+pub stack-rule-spec : {M : Type 1} → statement M
+stack-rule-spec = tie.close (tie.spec rule-requires returns)
