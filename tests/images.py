@@ -68,6 +68,14 @@ class Library:
         return number, list(row), list(core), list(vfp)
 
 
+def loaded():
+    """The C library, linked into the folder at hand for Python to load."""
+    if not os.path.exists(LIBRARY):
+        subprocess.run(["rt", "staticlib", "anrukfal"], cwd=HERE, check=True, stdout=subprocess.DEVNULL)
+    subprocess.run(["cc", "-shared", "-o", "lib.so", "-Wl,--whole-archive", LIBRARY, "-Wl,--no-whole-archive"], check=True)
+    return Library("./lib.so")
+
+
 class Differs(Exception):
     """Carries the call whose answers differ."""
 
@@ -100,12 +108,9 @@ def compared(library, image, drawn):
 
 def main():
     drawn, answers, images, entries, missing = random.Random(7), 0, {}, 0, set()
-    if not os.path.exists(LIBRARY):
-        subprocess.run(["rt", "staticlib", "anrukfal"], cwd=HERE, check=True, stdout=subprocess.DEVNULL)
     os.chdir(tempfile.mkdtemp())
     open("cstdint", "w").write(CSTDINT)
-    subprocess.run(["cc", "-shared", "-o", "lib.so", "-Wl,--whole-archive", LIBRARY, "-Wl,--no-whole-archive"], check=True)
-    library = Library("./lib.so")
+    library = loaded()
     for compiler, what, steps in commands():
         if not shutil.which(compiler) or not shutil.which(steps[-1].split()[0]):
             missing.add(f"{compiler} is not here")
