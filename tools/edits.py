@@ -17,4 +17,4 @@ for log in sorted(glob.glob("target/must-fail/*/*/.log")):
     if "--short" not in sys.argv:
         print(f"{name}: {first[:160]}")
 print(f"{count} edits, {len(unfit)} that show nothing{': ' + ', '.join(unfit) if unfit else ''}")
-sys.exit(1 if unfit else 0)
+sys.exit(1 if unfit or not count else 0)
