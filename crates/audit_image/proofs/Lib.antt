@@ -1,0 +1,3 @@
+mod Copy
+mod Decimal
+mod Lines
