@@ -1,8 +1,9 @@
 // Audits the bundle on standard input and prints one line: ok N, fault R at entry I, or fault R.
-ghost use mathlib.Core.Path.{_≡_};
+ghost use Prim.Native.Nat.{_<_};
+ghost use lib.ListN.{length};
 ghost use Rattle.io.specs.Counts.{Counts};
-ghost use Rattle.bundle.specs.Audit.{auditBundleOf};
-ghost use Rattle.audit_image.specs.Line.{lineOf, written};
+ghost use Rattle.bundle.specs.Bundle.{mostBytes};
+ghost use Rattle.audit_image.specs.Input.{LineOfInput};
 use crate::line::Line;
 
 mod line;
@@ -10,19 +11,21 @@ mod line;
 // The largest bundle.
 const MOST: usize = 131092;
 
-// The line of a bundle's bytes.
-fn audited(bytes: &[u8]) -> Line
-    ensures { λ r. ⌜ written r ≡ lineOf (auditBundleOf (now (bytes .entry))) ⌝ }
+// The line of an input, of which the first n bytes of the buffer are all, or as many as it holds.
+fn audited(buffer: &[u8], n: usize) -> Line
+    requires { ⌜ mostBytes < length (now buffer) ⌝ }
+    requires { ⌜ Counts n (now buffer) ⌝ }
+    ensures { λ r. ⌜ LineOfInput (now (buffer .entry)) n r ⌝ }
     ensures { λ r. ⌜ Counts (r .len) (r .bytes) ⌝ }
 {
-    line::printed(bundle::audit_bundle(bytes))
+    line::printed(bundle::audit_bundle(&buffer[..n]))
 }
 
 // One byte more is read, so that leftovers are seen.
 fn main() {
-    let mut bytes = [0u8; MOST + 1];
-    let n = io::read_full(0, &mut bytes);
-    let line = audited(&bytes[..n]);
+    let mut buffer = [0u8; MOST + 1];
+    let n = io::read_full(0, &mut buffer);
+    let line = audited(&buffer, n);
     let text = line.bytes;
     let len = line.len;
     io::write_all(1, &text[..len]);

@@ -20,6 +20,10 @@ mostEntries = indexMost / 8
 abbrev pub mostWords : ℕ
 mostWords = tableMost / 4
 
+-- the largest bundle: three counts, two addresses, and both sections at their most
+abbrev pub mostBytes : ℕ
+mostBytes = 20 + indexMost + tableMost
+
 -- a count: 18 where the bytes end before it
 abbrev pub counted : List ℕ → ℕ → (ℕ → BundleRead) → BundleRead
 counted xs at go = onWord (wordAt xs at) go (BundleRead.Refused Refusal.Bundle)

@@ -1,0 +1,16 @@
+-- The line of an input of any length, of which the program has only what its buffer holds.
+use Prim.Native.Nat.{ℕ}
+use mathlib.Core.Path.{_≡_}
+use mathlib.Core.List.{List}
+use lib.ListN.{length, take}
+use Rattle.bundle.specs.Audit.{auditBundleOf}
+use Rattle.audit_image.specs.Line.{lineOf, written}
+use Rattle.audit_image.specs.declared.line.Line.{Line}
+
+-- the first n bytes of the buffer are the input's first: all of them, or as many as the buffer holds
+abbrev pub Read : List ℕ → ℕ → List ℕ → Type 0
+Read buffer n input = take n buffer ≡ take (length buffer) input
+
+-- whatever the input was, the line is its own
+abbrev pub LineOfInput : List ℕ → ℕ → Line → Type 0
+LineOfInput buffer n l = (input : List ℕ) → Read buffer n input → written l ≡ lineOf (auditBundleOf input)
