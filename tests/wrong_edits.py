@@ -17,8 +17,8 @@ import time
 
 CRATES = "section pointer instruction entry lsda image search lookup step audit walker bundle audit_image anrukfal".split()
 OTHER = {"<=": "<", "<": "<=", "==": "!=", "!=": "==", "+": "-", "-": "+", "*": "+", "/": "%", "%": "/"}
-# lines whose edits may be accepted: a constant that only the crates above use, and a buffer that may be larger
-MAY_DIFFER = ("pub const WORDS_MOST", "const MOST")
+# lines whose edits may be accepted: a constant that only the crates above use, a buffer that may be larger, and what a buffer holds before it is written
+MAY_DIFFER = ("pub const WORDS_MOST", "const MOST", "bytes: [0; ROOM]")
 NOT_CODE = re.compile(r"\s*(//|ghost |use |mod |#|ensures|requires|(pub(\(crate\))? )?(extern \"C\" )?(fn|struct|enum|impl)\b|$)")
 
 
@@ -99,7 +99,7 @@ def tried(crate, edit):
     answer = checked(crate)
     open(path, "w", encoding="utf-8").write(text)
     line = text.splitlines()[text.count("\n", 0, a)]
-    if answer == "accepted" and line.startswith(MAY_DIFFER):
+    if answer == "accepted" and line.strip().startswith(MAY_DIFFER):
         return "accepted as they may be"
     if answer == "accepted":
         print(f"accepted: {path}: {line.strip()}  with `{new}` for `{text[a:b].strip()}`", flush=True)
