@@ -1,3 +1,4 @@
 mod Copy
 mod Decimal
 mod Lines
+mod Inputs

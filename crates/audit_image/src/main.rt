@@ -8,10 +8,10 @@ use crate::line::Line;
 
 mod line;
 
-// The largest bundle.
-const MOST: usize = 131092;
+// The largest bundle: three counts, two addresses, and both sections at their most.
+const MOST: usize = 20 + section::INDEX_MOST + section::TABLE_MOST;
 
-// The line of an input, of which the first n bytes of the buffer are all, or as many as it holds.
+// The line of an input: the first n bytes of the buffer are all of it, or as many as there is room for.
 fn audited(buffer: &[u8], n: usize) -> Line
     requires { ⌜ mostBytes < length (now buffer) ⌝ }
     requires { ⌜ Counts n (now buffer) ⌝ }
