@@ -21,7 +21,7 @@ use Rattle.image.specs.Image.{Image, countOf, sectionsOf, Sections, entryAt, wo
 use Rattle.image.specs.declared.Found.{Found}
 use Rattle.image.proofs.Laws.{sections-exact}
 use Rattle.audit.specs.Audit.{wordsCheck, foundCheck, floorOf, entryCheck, firstFault, auditOf}
-use Rattle.audit.specs.Sound.{SoundFound, functionIn, SoundEntry, Sound}
+use Rattle.audit.specs.Sound.{SoundFound, startOf, SoundEntry, Sound}
 use Rattle.audit.specs.declared.Verdict.{Verdict}
 
 module _ (i : Image) where
@@ -43,12 +43,12 @@ module _ (i : Image) where
       fine-and (wordsCheck (i .index) (i .table) s) _ (instructions-exact (wordsOf i s) (s .skip) .1 p) (sites-exact (languageOf i o) f .1 q)
 
   -- ---- above the function before
-  floor-above : (k a : ℕ) → floorOf i k ≤ a → (j : ℕ) → suc j ≡ k → functionIn i j .0 < a
+  floor-above : (k a : ℕ) → floorOf i k ≤ a → (j : ℕ) → suc j ≡ k → startOf i j .0 < a
   unfolding floorOf
   floor-above zero a h j e = absurd (omega arith)
   floor-above (suc k) a h j e = let q : j ≡ k = omega arith in rw q (omega arith)
 
-  above-floor : (k a : ℕ) → ((j : ℕ) → suc j ≡ k → functionIn i j .0 < a) → floorOf i k ≤ a
+  above-floor : (k a : ℕ) → ((j : ℕ) → suc j ≡ k → startOf i j .0 < a) → floorOf i k ≤ a
   unfolding floorOf
   above-floor zero a h = omega arith
   above-floor (suc j) a h = let g = h j refl in omega arith
@@ -68,12 +68,12 @@ module _ (i : Image) where
       to (FunctionRead.At f) r p =
           let t = function-read (i .index) (i .indexAt) k f r in
           let h = exact f .0 p in
-          let g : floorOf i k ≤ functionIn i k .0 = rw (t .is) at (h .0) in
-          record { sound = t .sound; above = floor-above k (functionIn i k .0) g; leads = h .1 }
+          let g : floorOf i k ≤ startOf i k .0 = rw (t .is) at (h .0) in
+          record { sound = t .sound; above = floor-above k (startOf i k .0) g; leads = h .1 }
       to (FunctionRead.Refused r) q p = no-fault r p
 
       from : SoundEntry i k → onFunction (functionAt (i .index) (i .indexAt) k) test Check.Fault ≡ Check.Fine
-      from x = rw (function-sound (i .index) (i .indexAt) k (s .index) l (x .sound)) (exact (functionIn i k) .1 (above-floor k (functionIn i k .0) (x .above), x .leads))
+      from x = rw (function-sound (i .index) (i .indexAt) k (s .index) l (x .sound)) (exact (startOf i k) .1 (above-floor k (startOf i k .0) (x .above), x .leads))
 
 -- ---- every entry in order
 no-pass : {X : Type 0} (r : Refusal) (k : ℕ) → Verdict.Fault r k ≡ Verdict.Passed → X

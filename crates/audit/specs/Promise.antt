@@ -24,32 +24,32 @@ use Rattle.step.specs.Answers.{stepAnswer}
 use Rattle.step.specs.Step.{stepOf}
 use Rattle.step.specs.declared.Arrival.{Arrival}
 use Rattle.step.specs.declared.Registers.{Registers}
-use Rattle.audit.specs.Sound.{functionIn}
+use Rattle.audit.specs.Sound.{startOf}
 
 -- entry k is the one whose stretch, up to the next function, holds the counter
 pub record Stretch (i : Image) (c : Addr) (k : ℕ) : Type 0 where
-  pub holds : rising.Covers (i .index) (i .indexAt) c k
-  pub only : (j : ℕ) → rising.Covers (i .index) (i .indexAt) c j → j ≡ k
+  pub holds : rising.Holds (i .index) (i .indexAt) c k
+  pub only : (j : ℕ) → rising.Holds (i .index) (i .indexAt) c j → j ≡ k
 
 -- the language data of a generic entry
 pub record Generic (i : Image) (k : ℕ) (p : Addr) (h : Header) : Type 0 where
   pub span : Span
   pub language : Off
-  pub leads : entryAt i k ≡ Found.Generic (functionIn i k) p span language
-  pub header : headerOf (languageOf i language) (functionIn i k) ≡ HeaderRead.Is h
+  pub leads : entryAt i k ≡ Found.Generic (startOf i k) p span language
+  pub header : headerOf (languageOf i language) (startOf i k) ≡ HeaderRead.Is h
 
 -- a lookup's answer: that entry with its function's address, and of a generic one the first site that covers the counter; 2 where no function starts at
 -- or below the counter; 11 where no site of that entry covers it
-pub data Answers (i : Image) (c : Addr) : Looked → Type 0 where
-  no-entry : ((k : ℕ) → k < countOf i → c .0 < functionIn i k .0) → Answers i c (Looked.Refused Refusal.NoEntry)
-  cannot : {k : ℕ} → Stretch i c k → entryAt i k ≡ Found.CannotUnwind (functionIn i k) → Answers i c (Looked.CannotUnwind k (functionIn i k))
-  compact : {k n : ℕ} {s : Span} → Stretch i c k → entryAt i k ≡ Found.Compact (functionIn i k) n s → Answers i c (Looked.Compact k (functionIn i k) (s .held) n)
+pub data LookupGives (i : Image) (c : Addr) : Looked → Type 0 where
+  no-entry : ((k : ℕ) → k < countOf i → c .0 < startOf i k .0) → LookupGives i c (Looked.Refused Refusal.NoEntry)
+  cannot : {k : ℕ} → Stretch i c k → entryAt i k ≡ Found.CannotUnwind (startOf i k) → LookupGives i c (Looked.CannotUnwind k (startOf i k))
+  compact : {k n : ℕ} {s : Span} → Stretch i c k → entryAt i k ≡ Found.Compact (startOf i k) n s → LookupGives i c (Looked.Compact k (startOf i k) (s .held) n)
   site : {k : ℕ} {p : Addr} {h : Header} {x : Site} → Stretch i c k → (g : Generic i k p h)
       → First (Covers c) (sitesFrom (languageOf i (g .language)) h (h .start .0)) x
-      → Answers i c (Looked.Generic k (functionIn i k) p (resolved (h .base) x))
+      → LookupGives i c (Looked.Generic k (startOf i k) p (resolved (h .base) x))
   no-site : {k : ℕ} {p : Addr} {h : Header} → Stretch i c k → (g : Generic i k p h)
       → Nowhere (Covers c) (sitesFrom (languageOf i (g .language)) h (h .start .0))
-      → Answers i c (Looked.Refused Refusal.NoSite)
+      → LookupGives i c (Looked.Refused Refusal.NoSite)
 
 -- in the paper's numbers: 0, 2 or 11
 pub data LookupNumber : ℕ → Type 0 where
@@ -58,12 +58,12 @@ pub data LookupNumber : ℕ → Type 0 where
   no-site : LookupNumber 11
 
 -- where a step leads: the next frame, cannot-unwind, 2, 12 or 17
-pub data Leads : Arrival → Type 0 where
-  frame : Leads Arrival.Frame
-  cannot : Leads Arrival.CannotUnwind
-  no-entry : Leads (Arrival.Refused Refusal.NoEntry)
-  refused : Leads (Arrival.Refused Refusal.Refused)
-  stack : Leads (Arrival.Refused Refusal.Stack)
+pub data StepGives : Arrival → Type 0 where
+  frame : StepGives Arrival.Frame
+  cannot : StepGives Arrival.CannotUnwind
+  no-entry : StepGives (Arrival.Refused Refusal.NoEntry)
+  refused : StepGives (Arrival.Refused Refusal.Refused)
+  stack : StepGives (Arrival.Refused Refusal.Stack)
 
 -- in the paper's numbers: 0, 2, 12 or 17
 pub data StepNumber : ℕ → Type 0 where
@@ -73,7 +73,7 @@ pub data StepNumber : ℕ → Type 0 where
   stack : StepNumber 17
 
 pub record Promise (i : Image) : Type 0 where
-  pub lookups : (c : Addr) → c .0 < 2 ^ 32 → Answers i c (lookupOf i c)
+  pub lookups : (c : Addr) → c .0 < 2 ^ 32 → LookupGives i c (lookupOf i c)
   pub lookup-numbers : (c : Addr) → c .0 < 2 ^ 32 → LookupNumber (lookedAnswer (lookupOf i c) .number)
-  pub steps : (st : List ℕ) (base : Addr) → Section stackMost (length st) base → (r : Registers) → Leads (stepOf i st base r .arrival)
+  pub steps : (st : List ℕ) (base : Addr) → Section stackMost (length st) base → (r : Registers) → StepGives (stepOf i st base r .arrival)
   pub step-numbers : (st : List ℕ) (base : Addr) → Section stackMost (length st) base → (r : Registers) → StepNumber (stepAnswer (stepOf i st base r) .number)

@@ -17,12 +17,12 @@ pub data SoundFound (i : Image) : Found → Type 0 where
   compact : {f : Addr} {n : ℕ} {s : Span} → CleanInstructions (wordsOf i s) (s .skip) → SoundFound i (Found.Compact f n s)
   generic : {f p : Addr} {s : Span} {o : Off} → CleanInstructions (wordsOf i s) (s .skip) → CleanSites (languageOf i o) f → SoundFound i (Found.Generic f p s o)
 
-abbrev pub functionIn : Image → ℕ → Addr
-functionIn i k = functionOf (i .index) (i .indexAt) k
+abbrev pub startOf : Image → ℕ → Addr
+startOf i k = functionOf (i .index) (i .indexAt) k
 
 pub record SoundEntry (i : Image) (k : ℕ) : Type 0 where
   pub sound : word (i .index) (8 * k) < 2 ^ 31
-  pub above : (j : ℕ) → suc j ≡ k → functionIn i j .0 < functionIn i k .0
+  pub above : (j : ℕ) → suc j ≡ k → startOf i j .0 < startOf i k .0
   pub leads : SoundFound i (entryAt i k)
 
 pub record Sound (i : Image) : Type 0 where

@@ -2,13 +2,8 @@
 -- language data. Kinds: 0 cannot unwind, 1 compact in the index, 2 compact in the table, 3 generic. A field that its kind does not use is 0.
 use mathlib.Core.List.{[], _∷_}
 use Rattle.section.specs.Answer.{Answer, given, refused}
-use Rattle.section.specs.declared.Check.{Check}
 use Rattle.entry.specs.Parts.{chosen}
 use Rattle.image.specs.declared.Found.{Found}
-
-abbrev pub sectionsAnswer : Check → Answer
-sectionsAnswer Check.Fine = given []
-sectionsAnswer (Check.Fault r) = refused 0 r
 
 abbrev pub foundAnswer : Found → Answer
 foundAnswer (Found.CannotUnwind f) = given (f .0 ∷ 0 ∷ 0 ∷ 0 ∷ 0 ∷ 0 ∷ 0 ∷ [])

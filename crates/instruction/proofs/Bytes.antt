@@ -15,7 +15,7 @@ use Rattle.section.specs.declared.Check.{Check}
 use Rattle.section.specs.declared.Check.the-variants.{Fine, Fault}
 use Rattle.section.proofs.Picks.{pick-each}
 use Rattle.section.proofs.Checks.{need-le, need-eq, and-exact, named}
-use Rattle.instruction.specs.Bytes.{instructionByte, wordsRule, byteOf, Words, Inside}
+use Rattle.instruction.specs.Bytes.{instructionByte, wordsRule, byteOf, Words, WithinWords}
 use Rattle.instruction.specs.declared.Byte.{Byte}
 
 module _ (w : List ℕ) where
@@ -53,8 +53,8 @@ module _ (w : List ℕ) (k : ℕ) where
       go (Fault r) e = refused r e
 
   -- a byte that is there lies within words that pass
-  pub byte-inside : (b : ℕ) → byteOf w k ≡ Byte.Is b → Inside w (k + 1)
-  byte-inside b = byte-each (λ x. x ≡ Byte.Is b → Inside w (k + 1))
+  pub byte-inside : (b : ℕ) → byteOf w k ≡ Byte.Is b → WithinWords w (k + 1)
+  byte-inside b = byte-each (λ x. x ≡ Byte.Is b → WithinWords w (k + 1))
       (λ x h e. record { within = omega arith; words = x })
       (λ x h e. let z : _≡_ {A = ℕ} 0 1 = cc in absurd (omega arith))
       (λ r h e. let z : _≡_ {A = ℕ} 0 1 = cc in absurd (omega arith))

@@ -15,7 +15,7 @@ use Rattle.section.specs.declared.Check.the-variants.{Fault}
 use Rattle.section.proofs.Picks.{pick-both}
 use Rattle.section.proofs.Checks.{no-fault}
 use Rattle.section.proofs.Ends.{end-each}
-use Rattle.instruction.specs.Bytes.{byteOf, onByte, wordsRule, Words, Inside}
+use Rattle.instruction.specs.Bytes.{byteOf, onByte, wordsRule, Words, WithinWords}
 use Rattle.instruction.specs.Decode.{errorAt, withSecond, sizeOf, popMask, toSp, popRun, lowMask, bytesFrom, longOf, endedLong, popLong, vfpPop, singleOf, opcodeOf, decodeOf, Named}
 use Rattle.instruction.specs.declared.Byte.{Byte}
 use Rattle.instruction.specs.declared.Instruction.{Instruction}
@@ -94,7 +94,7 @@ module _ (w : List ℕ) (n b : ℕ) where
 data Taken (n : ℕ) : Decoded → Type 0 where
   step : {i : Instruction} {m : ℕ} → n ≤ m → Named i → Taken n (Step i m)
 
-module _ (w : List ℕ) (n : ℕ) (inside : Inside w n) where
+module _ (w : List ℕ) (n : ℕ) (inside : WithinWords w n) where
   either : (t : Bool) {a b : Decoded} → Taken n a → Taken n b → Taken n (pick t a b)
   either t p q = pick-both (Taken n) t _ _ p q
 

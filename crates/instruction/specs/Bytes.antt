@@ -40,6 +40,6 @@ pub record Words (w : List ℕ) : Type 0 where
   pub whole : length w % 4 ≡ 0
 
 -- a position in or just past such words
-pub record Inside (w : List ℕ) (k : ℕ) : Type 0 where
+pub record WithinWords (w : List ℕ) (k : ℕ) : Type 0 where
   pub within : k ≤ length w
   pub words : Words w

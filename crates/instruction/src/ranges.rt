@@ -1,7 +1,7 @@
 // The instructions, by ranges of the first byte. `next` is the position after that byte.
 ghost use mathlib.Core.Path.{_≡_};
 ghost use Prim.Native.Nat.{_≤_};
-ghost use Rattle.instruction.specs.Bytes.{Inside};
+ghost use Rattle.instruction.specs.Bytes.{WithinWords};
 ghost use Rattle.instruction.specs.Decode.{errorAt, popMask, toSp, popRun, lowMask, vfpPop, singleOf, opcodeOf};
 use crate::Byte;
 use crate::Decoded;
@@ -9,7 +9,7 @@ use crate::Instruction;
 
 // After an Error the walk is at its end.
 pub(crate) fn error_at(words: &[u8], next: u32) -> Decoded
-    requires { ⌜ Inside (now words) next ⌝ }
+    requires { ⌜ WithinWords (now words) next ⌝ }
     ensures { λ r. ⌜ r ≡ errorAt (now (words .entry)) ⌝ }
 {
     Decoded::Step(Instruction::Error, words.len() as u32)
@@ -17,7 +17,7 @@ pub(crate) fn error_at(words: &[u8], next: u32) -> Decoded
 
 // 80-8F
 fn pop_mask(words: &[u8], next: u32, b: u8) -> Decoded
-    requires { ⌜ Inside (now words) next ⌝ }
+    requires { ⌜ WithinWords (now words) next ⌝ }
     ensures { λ r. ⌜ r ≡ popMask (now (words .entry)) next b ⌝ }
 {
     match crate::byte_at(words, next) {
@@ -73,7 +73,7 @@ fn pop_run(next: u32, b: u8) -> Decoded
 
 // B1
 fn low_mask(words: &[u8], next: u32) -> Decoded
-    requires { ⌜ Inside (now words) next ⌝ }
+    requires { ⌜ WithinWords (now words) next ⌝ }
     ensures { λ r. ⌜ r ≡ lowMask (now (words .entry)) next ⌝ }
 {
     match crate::byte_at(words, next) {
@@ -93,7 +93,7 @@ fn low_mask(words: &[u8], next: u32) -> Decoded
 
 // C8 with 16 more, C9
 fn vfp_pop(words: &[u8], next: u32, more: u8) -> Decoded
-    requires { ⌜ Inside (now words) next ⌝ }
+    requires { ⌜ WithinWords (now words) next ⌝ }
     requires { ⌜ more ≤ 16 ⌝ }
     ensures { λ r. ⌜ r ≡ vfpPop (now (words .entry)) next more ⌝ }
 {
@@ -112,7 +112,7 @@ fn vfp_pop(words: &[u8], next: u32, more: u8) -> Decoded
 
 // B0-FF
 fn single(words: &[u8], next: u32, b: u8) -> Decoded
-    requires { ⌜ Inside (now words) next ⌝ }
+    requires { ⌜ WithinWords (now words) next ⌝ }
     ensures { λ r. ⌜ r ≡ singleOf (now (words .entry)) next b ⌝ }
 {
     match b {
@@ -127,7 +127,7 @@ fn single(words: &[u8], next: u32, b: u8) -> Decoded
 
 // The instruction of a first byte.
 pub(super) fn opcode(words: &[u8], next: u32, b: u8) -> Decoded
-    requires { ⌜ Inside (now words) next ⌝ }
+    requires { ⌜ WithinWords (now words) next ⌝ }
     ensures { λ r. ⌜ r ≡ opcodeOf (now (words .entry)) next b ⌝ }
 {
     match b / 16 {

@@ -1,6 +1,6 @@
 // B2: a data pop whose size is a ULEB.
 ghost use mathlib.Core.Path.{_≡_};
-ghost use Rattle.instruction.specs.Bytes.{Inside};
+ghost use Rattle.instruction.specs.Bytes.{WithinWords};
 ghost use Rattle.instruction.specs.Decode.{popLong, longOf};
 use crate::Decoded;
 use crate::Instruction;
@@ -14,7 +14,7 @@ fn wide(x: u8) -> u64
 
 // The pop of a value that ends before `next`.
 fn long(words: &[u8], next: u32, value: u64) -> Decoded
-    requires { ⌜ Inside (now words) next ⌝ }
+    requires { ⌜ WithinWords (now words) next ⌝ }
     ensures { λ r. ⌜ r ≡ longOf (now (words .entry)) next value ⌝ }
 {
     if value <= 0x3FFF_FF7E {
@@ -26,7 +26,7 @@ fn long(words: &[u8], next: u32, value: u64) -> Decoded
 
 // At most five bytes, seven bits of each, the low ones first.
 pub(super) fn pop_long(words: &[u8], next: u32) -> Decoded
-    requires { ⌜ Inside (now words) next ⌝ }
+    requires { ⌜ WithinWords (now words) next ⌝ }
     ensures { λ r. ⌜ r ≡ popLong (now (words .entry)) next ⌝ }
 {
     let mut value: u64 = 0;

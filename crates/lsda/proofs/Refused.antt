@@ -18,7 +18,7 @@ use Rattle.pointer.specs.Pointer.{pointerOf, ulebOf}
 use Rattle.pointer.specs.Reads.{ReadsOn, NoLeb, NoPointer}
 use Rattle.pointer.specs.declared.Read.{Read}
 use Rattle.pointer.proofs.Laws.{pointer-on, uleb-on, leb-why}
-use Rattle.lsda.specs.Header.{onRead, onByte, onBase, byteAt, baseAt, typesAt, tableAt, headerOf}
+use Rattle.lsda.specs.Header.{onRead, onByteRead, onBase, byteAt, baseAt, typesAt, tableAt, headerOf}
 use Rattle.lsda.specs.Site.{padOf, actionOf, padFits, actionFits, fitsOf, resolved, settledOf}
 use Rattle.lsda.specs.Sites.{onHeader, coversOf, findIn, findFrom, callSiteOf, auditFrom, auditSitesOf}
 use Rattle.lsda.specs.Reasons.{Faulty, NoCallSite}
@@ -52,7 +52,7 @@ module _ (s : List ℕ) where
   OfHeader (HeaderRead.Refused r) = NoPointer (length s) r
 
   on-byte : {X : Type 0} (P : X → Type 0) (r : ByteRead) (stop : Refusal → X) (go : ℕ → Off → X)
-      → OfByte r → ((x : Refusal) → NoPointer (length s) x → P (stop x)) → ((e : ℕ) (p : Off) → P (go e p)) → P (onByte r stop go)
+      → OfByte r → ((x : Refusal) → NoPointer (length s) x → P (stop x)) → ((e : ℕ) (p : Off) → P (go e p)) → P (onByteRead r stop go)
   on-byte P (ByteRead.Byte e p) stop go h f g = g e p
   on-byte P (ByteRead.Refused r) stop go h f g = f r h
 

@@ -15,10 +15,10 @@ headerAnswer (HeaderRead.Is h) = given (h .base .0 ∷ h .encoding ∷ h .start 
 headerAnswer (HeaderRead.Refused r) = refused 4 r
 
 -- 1 for a site, 0 for the table's end; start, end, pad and action as they are written, next position
-abbrev pub placeAnswer : SiteRead → Answer
-placeAnswer (SiteRead.Is x next) = given (1 ∷ x .start .0 ∷ x .end .0 ∷ x .pad ∷ x .action ∷ next .0 ∷ [])
-placeAnswer SiteRead.Done = given (0 ∷ 0 ∷ 0 ∷ 0 ∷ 0 ∷ 0 ∷ [])
-placeAnswer (SiteRead.Refused r) = refused 6 r
+abbrev pub siteReadAnswer : SiteRead → Answer
+siteReadAnswer (SiteRead.Is x next) = given (1 ∷ x .start .0 ∷ x .end .0 ∷ x .pad ∷ x .action ∷ next .0 ∷ [])
+siteReadAnswer SiteRead.Done = given (0 ∷ 0 ∷ 0 ∷ 0 ∷ 0 ∷ 0 ∷ [])
+siteReadAnswer (SiteRead.Refused r) = refused 6 r
 
 -- no pad is 0
 abbrev pub padNumber : Pad → ℕ

@@ -20,9 +20,9 @@ abbrev pub onRead : {X : Type 0} → Read → (Refusal → X) → (ℕ → Off �
 onRead (Read.Value v p) stop go = go v p
 onRead (Read.Refused r) stop go = stop r
 
-abbrev pub onByte : {X : Type 0} → ByteRead → (Refusal → X) → (ℕ → Off → X) → X
-onByte (ByteRead.Byte b p) stop go = go b p
-onByte (ByteRead.Refused r) stop go = stop r
+abbrev pub onByteRead : {X : Type 0} → ByteRead → (Refusal → X) → (ℕ → Off → X) → X
+onByteRead (ByteRead.Byte b p) stop go = go b p
+onByteRead (ByteRead.Refused r) stop go = stop r
 
 abbrev pub onBase : {X : Type 0} → Based → (Refusal → X) → (Addr → Off → X) → X
 onBase (Based.On a p) stop go = go a p
@@ -34,17 +34,17 @@ byteAt s at = pick (ltb at (length s)) (ByteRead.Byte (getD s at 0) (off (at + 1
 -- base encoding byte; unless FF, the base. Default: the function's address
 unfoldable pub baseAt : List ℕ → Addr → ℕ → Based
 baseAt s function at =
-    onByte (byteAt s at) Based.Refused (λ e p.
+    onByteRead (byteAt s at) Based.Refused (λ e p.
     pick (eqb e 0xFF) (Based.On function p) (onRead (pointerOf s (p .0) e) Based.Refused (λ v q. Based.On (addr v) q)))
 
 -- type encoding byte; unless FF, a ULEB
 unfoldable pub typesAt : List ℕ → ℕ → Read
-typesAt s at = onByte (byteAt s at) Read.Refused (λ e p. pick (eqb e 0xFF) (Read.Value 0 p) (ulebOf s (p .0)))
+typesAt s at = onByteRead (byteAt s at) Read.Refused (λ e p. pick (eqb e 0xFF) (Read.Value 0 p) (ulebOf s (p .0)))
 
 -- call-site encoding byte; table length ULEB. The table stands from there to below its start plus length
 unfoldable pub tableAt : List ℕ → Addr → ℕ → HeaderRead
 tableAt s base at =
-    onByte (byteAt s at) HeaderRead.Refused (λ e p.
+    onByteRead (byteAt s at) HeaderRead.Refused (λ e p.
     onRead (ulebOf s (p .0)) HeaderRead.Refused (λ n q. HeaderRead.Is (record { base = base; encoding = e; start = q; end = q .0 + n })))
 
 unfoldable pub headerOf : List ℕ → Addr → HeaderRead

@@ -23,7 +23,7 @@ use Rattle.entry.proofs.Laws.{function-sound}
 use Rattle.image.specs.Image.{Image, entryAt, ledBy}
 use Rattle.image.proofs.Laws.{entry-is-led}
 use Rattle.search.specs.Search.{hit, side, halveFrom, halve, searchOf}
-use Rattle.search.specs.Rising.{Begins, Rising, Covers, Located, Answers}
+use Rattle.search.specs.Rising.{Begins, Rising, Holds, Located, SearchGives}
 use Rattle.search.specs.declared.Hit.{Hit}
 use Rattle.search.specs.declared.Searched.{Searched}
 use Rattle.search.proofs.Ways.{search-empty, search-below, search-halve}
@@ -132,7 +132,7 @@ module _ (xs : List ℕ) (a counter : Addr) (up : Rising xs a) where
       omega (arith, g)
 
   -- ---- the stretch that holds a counter is that of the last function at or below it
-  last : (k : ℕ) → Covers xs a counter k → (j : ℕ) → j < entries xs → F j ≤ counter .0 → j ≤ k
+  last : (k : ℕ) → Holds xs a counter k → (j : ℕ) → j < entries xs → F j ≤ counter .0 → j ≤ k
   last k p j h b =
       by-test (ltb k j)
       (λ t.
@@ -151,18 +151,18 @@ module _ (xs : List ℕ) (a counter : Addr) (up : Rising xs a) where
       absurd (omega (arith, g))))
       (λ t. ltb-false k j t)
 
-  only-one : (j k : ℕ) → Covers xs a counter j → Covers xs a counter k → j ≡ k
+  only-one : (j k : ℕ) → Holds xs a counter j → Holds xs a counter k → j ≡ k
   only-one j k p q = let x = last k q j (p .inside) (p .starts) in let y = last j p k (q .inside) (q .starts) in omega arith
 
   -- ---- the halving keeps function low ≤ counter < function high
   abbrev Stretch : Searched → Type 0
-  Stretch (Searched.Found h) = Covers xs a counter (h .entry)
+  Stretch (Searched.Found h) = Holds xs a counter (h .entry)
   Stretch (Searched.Refused r) = ⊥
 
   sound-at : (k : ℕ) → k < entries xs → functionAt xs a k ≡ FunctionRead.At (functionOf xs a k)
   sound-at k h = function-sound xs a k (up .section) h (up .sound k h)
 
-  ended : (low high : ℕ) → low < high → high ≤ entries xs → high ≤ low + 1 → F low ≤ counter .0 → (high < entries xs → counter .0 < F high) → Covers xs a counter low
+  ended : (low high : ℕ) → low < high → high ≤ entries xs → high ≤ low + 1 → F low ≤ counter .0 → (high < entries xs → counter .0 < F high) → Holds xs a counter low
   ended low high h n s b g =
       let e : high ≡ low + 1 = omega arith in
       record { inside = omega arith; starts = b; ends = λ l. rw e at (g (omega arith)) }
@@ -204,16 +204,16 @@ module _ (xs : List ℕ) (a counter : Addr) (up : Rising xs a) where
   finds h b = located _ (search-halve xs a counter passes (λ z. omega arith) (functionOf xs a 0) (sound-at 0 h) b) (halved h b)
 
   -- where an entry's stretch holds the counter the search finds it, and 2 is the answer where none does
-  pub answers : Answers xs a counter (searchOf xs a counter)
+  pub answers : SearchGives xs a counter (searchOf xs a counter)
   answers =
       by-test (eqb (entries xs) 0)
       (λ z.
       let e = eqb-true (entries xs) 0 z in
-      Answers.none (search-empty xs a counter passes e) (λ j c. absurd (omega arith)))
+      SearchGives.none (search-empty xs a counter passes e) (λ j c. absurd (omega arith)))
       (λ z.
       let n = eqb-false (entries xs) 0 z in
       by-test (ltb (counter .0) (F 0))
       (λ t.
       let b = ltb-true (counter .0) (F 0) t in
-      Answers.none (search-below xs a counter passes n (functionOf xs a 0) (sound-at 0 (omega arith)) b) (λ j c. omega (arith, b, first j c)))
-      (λ t. Answers.located (finds (omega arith) (ltb-false (counter .0) (F 0) t))))
+      SearchGives.none (search-below xs a counter passes n (functionOf xs a 0) (sound-at 0 (omega arith)) b) (λ j c. omega (arith, b, first j c)))
+      (λ t. SearchGives.located (finds (omega arith) (ltb-false (counter .0) (F 0) t))))

@@ -27,7 +27,7 @@ pub record Rising (xs : List ℕ) (a : Addr) : Type 0 where
   pub rises : (k : ℕ) → k + 1 < entries xs → functionOf xs a k .0 < functionOf xs a (k + 1) .0
 
 -- the stretch of entry k holds the counter: from its function to below the next, and from the last one on
-pub record Covers (xs : List ℕ) (a counter : Addr) (k : ℕ) : Type 0 where
+pub record Holds (xs : List ℕ) (a counter : Addr) (k : ℕ) : Type 0 where
   pub inside : k < entries xs
   pub starts : functionOf xs a k .0 ≤ counter .0
   pub ends : k + 1 < entries xs → counter .0 < functionOf xs a (k + 1) .0
@@ -38,11 +38,11 @@ pub record Located (xs : List ℕ) (a counter : Addr) (r : Searched) : Type 0 wh
   pub probes : ℕ
   pub found : r ≡ Searched.Found (hit entry (functionOf xs a entry) probes)
   pub few : probes ≤ 14
-  pub covers : Covers xs a counter entry
+  pub covers : Holds xs a counter entry
   pub last : (j : ℕ) → j < entries xs → functionOf xs a j .0 ≤ counter .0 → j ≤ entry
-  pub only : (j : ℕ) → Covers xs a counter j → j ≡ entry
+  pub only : (j : ℕ) → Holds xs a counter j → j ≡ entry
 
 -- what a search can give on rising functions: that one entry, or 2 where no function is at or below the counter
-pub data Answers (xs : List ℕ) (a counter : Addr) (r : Searched) : Type 0 where
-  located : Located xs a counter r → Answers xs a counter r
-  none : r ≡ Searched.Refused Refusal.NoEntry → ((j : ℕ) → j < entries xs → counter .0 < functionOf xs a j .0) → Answers xs a counter r
+pub data SearchGives (xs : List ℕ) (a counter : Addr) (r : Searched) : Type 0 where
+  located : Located xs a counter r → SearchGives xs a counter r
+  none : r ≡ Searched.Refused Refusal.NoEntry → ((j : ℕ) → j < entries xs → counter .0 < functionOf xs a j .0) → SearchGives xs a counter r

@@ -10,3 +10,4 @@ pub mod Digits
 pub mod Word
 pub mod View
 pub mod Walk
+pub mod Answers
