@@ -15,14 +15,14 @@ use Rattle.entry.specs.declared.Span.{Span}
 use Rattle.entry.proofs.Laws.{function-read}
 use Rattle.lsda.specs.Sites.{auditSitesOf}
 use Rattle.image.specs.Image.{Image, countOf, sectionsOf, ledBy}
-use Rattle.entry.specs.Parts.{chosen, wordsIn, languageIn}
+use Rattle.entry.specs.Parts.{heldWords, languageIn}
 use Rattle.image.specs.declared.Found.{Found}
 use Rattle.image.proofs.Laws.{entry-is-led}
 use Rattle.audit.specs.Audit.{wordsCheck, foundCheck, floorOf, entryCheck, ledCheck, firstFault, auditOf}
 use Rattle.audit.specs.declared.Verdict.{Verdict}
 
 -- ---- what an entry leads to: x is the audit of its words, y of its language data
-module _ (xs ys : List ℕ) (s : Span) {w : List ℕ} (words : w ≡ wordsIn (chosen (s .held) xs ys) s) {x : Check} (told : x ≡ auditInstructionsOf w (s .skip)) where
+module _ (xs ys : List ℕ) (s : Span) {w : List ℕ} (words : w ≡ heldWords xs ys s) {x : Check} (told : x ≡ auditInstructionsOf w (s .skip)) where
   audited : x ≡ wordsCheck xs ys s
   audited = told ∙ ap (λ (l : List ℕ). auditInstructionsOf l (s .skip)) words
 

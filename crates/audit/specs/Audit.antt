@@ -8,7 +8,7 @@ use Rattle.section.specs.declared.Refusal.{Refusal}
 use Rattle.section.specs.declared.Check.{Check}
 use Rattle.instruction.specs.Program.{auditInstructionsOf}
 use Rattle.entry.specs.Index.{functionOf, functionAt, onFunction}
-use Rattle.entry.specs.Parts.{chosen, wordsIn, languageIn}
+use Rattle.entry.specs.Parts.{heldWords, languageIn}
 use Rattle.entry.specs.declared.Span.{Span}
 use Rattle.lsda.specs.Sites.{auditSitesOf}
 use Rattle.image.specs.Image.{Image, countOf, sectionsOf, entryAt, ledBy}
@@ -17,7 +17,7 @@ use Rattle.audit.specs.declared.Verdict.{Verdict}
 
 -- the instructions of a span, from whichever section holds them
 abbrev pub wordsCheck : List ℕ → List ℕ → Span → Check
-wordsCheck xs ys s = auditInstructionsOf (wordsIn (chosen (s .held) xs ys) s) (s .skip)
+wordsCheck xs ys s = auditInstructionsOf (heldWords xs ys s) (s .skip)
 
 -- content cannot-unwind, or entry readable; then instructions; then for generic entries the header and each call site
 unfoldable pub foundCheck : List ℕ → List ℕ → Found → Check

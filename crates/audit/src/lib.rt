@@ -35,7 +35,7 @@ fn check_found<'a>(index: &'a [u8], table: &'a [u8], found: Found) -> Check
             match instruction::audit_instructions(words, span.skip) {
                 Check::Fault(r) => Check::Fault(r),
                 Check::Fine => {
-                    let data = section::suffix(table, language.0 as usize);
+                    let data = entry::language_from(table, language);
                     lsda::audit_sites(data, f)
                 }
             }

@@ -9,7 +9,8 @@ use Rattle.lsda.specs.Site.{pairAt, summedOf, fieldsAt, siteAt, fitsOf, settled
 use Rattle.lsda.specs.Sites.{coversOf, findIn, callSiteOf}
 use Rattle.pointer.specs.Number.{ended, lebOf, fixedOf, unsignedOf, signedOf}
 use Rattle.pointer.specs.Pointer.{sized, ulebOf, slebOf, pointerOf, formed}
-use Rattle.instruction.specs.Bytes.{wordsRule, byteOf}
+use Rattle.section.specs.Rule.{wordsRule}
+use Rattle.instruction.specs.Bytes.{byteOf}
 use Rattle.instruction.specs.Decode.{popMask, toSp, popRun, lowMask, longOf, popLong, vfpPop, singleOf, opcodeOf, decodeOf}
 use Rattle.edges.specs.Cases.{Case, answerOf, cases}
 

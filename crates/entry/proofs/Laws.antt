@@ -27,7 +27,7 @@ use Rattle.section.proofs.Rules.{section-exact, index-exact}
 use Rattle.section.proofs.Views.{spot-in, suffix-in, suffix-out, bytes-length}
 use Rattle.entry.specs.Index.{entries, numbered, functionOf, functionIn, functionAt, contentOf, contentAt, indexEntryOf, onFunction, onContent}
 use Rattle.entry.specs.Table.{fitting, selectorOf, compactOf, genericOf, entryBy, tableEntryOf}
-use Rattle.entry.specs.Parts.{chosen, wordsSpot, Words, wordsIn, languageIn}
+use Rattle.entry.specs.Parts.{chosen, wordsSpot, Words, wordsIn, heldWords, languageIn}
 use Rattle.entry.specs.Read.{Inside, Contents, FunctionGives, FunctionTold, ContentGives, IndexGives, Known, TableRefusal, TableGives}
 use Rattle.entry.specs.declared.Personality.{Personality}
 use Rattle.entry.specs.declared.Held.{Held}
@@ -179,7 +179,7 @@ module _ (ys : List ℕ) (a : Addr) where
 
 -- ---- views
 -- the words that are handed out are those of the section that holds them
-pub words-are : (i t r : RefT (List ℕ)) (n : Span) → Words i t r n → now r ≡ wordsIn (chosen (n .held) (now i) (now t)) n
+pub words-are : (i t r : RefT (List ℕ)) (n : Span) → Words i t r n → now r ≡ heldWords (now i) (now t) n
 words-are i t r n p = go (n .held) (p .part)
   where
     go : (h : Held) → Part (chosen h i t) r (wordsSpot (length (now (chosen h i t))) n) → now r ≡ wordsIn (chosen h (now i) (now t)) n

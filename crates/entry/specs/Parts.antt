@@ -22,14 +22,22 @@ wordsSpot len n = partFrom len (n .at .0) (4 * n .words)
 pub record Words (i t r : RefT (List ℕ)) (n : Span) : Type 0 where
   pub part : Part (chosen (n .held) i t) r (wordsSpot (length (now (chosen (n .held) i t))) n)
 
--- where the language data is, of what was read in a table of len bytes: from the entry's end to the table's
-abbrev pub languageSpot : ℕ → TableRead → Spot
-languageSpot len (TableRead.Entry e) = suffixFrom len (e .language .0)
-languageSpot len (TableRead.Refused r) = (0, 0)
+-- where the language data is that begins at an offset of a table of len bytes: from there to the table's end
+abbrev pub languageSpot : ℕ → Off → Spot
+languageSpot len o = suffixFrom len (o .0)
+
+-- that of what was read: of an entry, from its end on
+abbrev pub languageRead : ℕ → TableRead → Spot
+languageRead len (TableRead.Entry e) = languageSpot len (e .language)
+languageRead len (TableRead.Refused r) = (0, 0)
 
 -- ---- their bytes
 abbrev pub wordsIn : List ℕ → Span → List ℕ
 wordsIn s n = bytesOf s (wordsSpot (length s) n)
 
+-- from whichever section holds them
+abbrev pub heldWords : List ℕ → List ℕ → Span → List ℕ
+heldWords xs ys n = wordsIn (chosen (n .held) xs ys) n
+
 abbrev pub languageIn : List ℕ → Off → List ℕ
-languageIn ys o = bytesOf ys (suffixFrom (length ys) (o .0))
+languageIn ys o = bytesOf ys (languageSpot (length ys) o)

@@ -32,22 +32,13 @@ pub(crate) fn numbered(len: usize, index_address: Addr, number: u32) -> Check
     }
 }
 
-// A word that is all there.
-fn whole_word(index: &[u8], at: Off) -> u32
-    requires { ⌜ at .0 + 4 ≤ length (now index) ⌝ }
-    ensures { λ r. ⌜ r ≡ word (now (index .entry)) (at .0) ⌝ }
-{
-    let o = at.0 as usize;
-    section::from_le(index[o], index[o + 1], index[o + 2], index[o + 3])
-}
-
 // The function of an entry that is there.
 pub(crate) fn function_of(index: &[u8], index_address: Addr, number: u32) -> FunctionRead
     requires { ⌜ (length (now index) ≤ indexMost) × (number < entries (now index)) ⌝ }
     ensures { λ r. ⌜ r ≡ functionIn (now (index .entry)) «index_address» number ⌝ }
 {
     let at = Off(8 * number);
-    let w = whole_word(index, at);
+    let w = section::word_or_zero(index, at);
     if w < 0x8000_0000 {
         FunctionRead::At(section::prel31(w, section::address_of(index_address, at)))
     } else {
@@ -61,7 +52,7 @@ pub(crate) fn content_of(index: &[u8], index_address: Addr, number: u32) -> Cont
     ensures { λ r. ⌜ r ≡ contentOf (word (now (index .entry)) (8 * number + 4)) «index_address» (off (8 * number + 4)) ⌝ }
 {
     let at = Off(8 * number + 4);
-    let w = whole_word(index, at);
+    let w = section::word_or_zero(index, at);
     if w == 1 {
         return Content::CannotUnwind;
     }

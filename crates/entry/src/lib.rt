@@ -4,7 +4,7 @@ ghost use lib.ListN.{length};
 ghost use Rattle.section.specs.View.{Part};
 ghost use Rattle.entry.specs.Index.{functionAt, contentAt, indexEntryOf};
 ghost use Rattle.entry.specs.Table.{tableEntryOf};
-ghost use Rattle.entry.specs.Parts.{languageSpot, Words};
+ghost use Rattle.entry.specs.Parts.{languageSpot, languageRead, Words};
 
 mod index;
 mod table;
@@ -128,14 +128,21 @@ pub fn table_entry(table: &[u8], table_address: Addr, offset: Off) -> TableRead
     }
 }
 
-// The language data of the entry at an offset: the table from the entry's end on. A refusal has the empty part.
+// The language data of an entry that was read, as a part of its table: from where the reader says that it begins to the table's end.
+pub fn language_from<'a>(table: &'a [u8], language: Off) -> &'a [u8]
+    ensures { λ r. ⌜ Part (table .entry) r (languageSpot (length (now (table .entry))) language) ⌝ }
+{
+    section::suffix(table, language.0 as usize)
+}
+
+// The language data of the entry at an offset. A refusal has the empty part.
 pub fn language_data<'a>(table: &'a [u8], table_address: Addr, offset: Off) -> &'a [u8]
-    ensures { λ r. ⌜ Part (table .entry) r (languageSpot (length (now (table .entry))) (tableEntryOf (now (table .entry)) «table_address» offset)) ⌝ }
+    ensures { λ r. ⌜ Part (table .entry) r (languageRead (length (now (table .entry))) (tableEntryOf (now (table .entry)) «table_address» offset)) ⌝ }
 {
     match table_entry(table, table_address, offset) {
         TableRead::Entry(e) => {
-            let from = e.language;
-            section::suffix(table, from.0 as usize)
+            let language = e.language;
+            language_from(table, language)
         }
         TableRead::Refused(_) => &table[0..0],
     }

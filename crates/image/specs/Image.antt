@@ -12,7 +12,7 @@ use Rattle.section.specs.declared.Refusal.{Refusal}
 use Rattle.section.specs.declared.Check.{Check}
 use Rattle.entry.specs.Index.{entries, contentAt, indexEntryOf, onContent, onIndex}
 use Rattle.entry.specs.Table.{tableEntryOf, onTable}
-use Rattle.entry.specs.Parts.{chosen, wordsIn, languageIn}
+use Rattle.entry.specs.Parts.{heldWords, languageIn}
 use Rattle.entry.specs.declared.Span.{Span}
 use Rattle.entry.specs.declared.Personality.{Personality}
 use Rattle.entry.specs.declared.Content.{Content}
@@ -81,7 +81,7 @@ ledBy i k f = onCheck (sectionsOf i) (ledIn i k f) Found.Refused
 -- ---- the bytes that an entry names
 -- of its instruction words, from whichever section holds them
 abbrev pub wordsOf : Image → Span → List ℕ
-wordsOf i n = wordsIn (chosen (n .held) (i .index) (i .table)) n
+wordsOf i n = heldWords (i .index) (i .table) n
 
 -- of its language data, from an offset of the table on
 abbrev pub languageOf : Image → Off → List ℕ

@@ -1,54 +1,43 @@
 -- Laws of instruction bytes: one for each way to an answer, and what an answer says of the words. Assumes nothing.
-use Prim.Native.Nat.{ℕ, _+_, _%_, _≤_, _<_}
+use Prim.Native.Nat.{ℕ, _+_, _≤_, _<_}
 use mathlib.Core.Path.{_≡_, refl}
 use mathlib.Core.List.{List}
-use mathlib.Core.Logic.{_↔_}
 use native.Mathlib.Omega.{arith}
 use lib.ListN.{length}
 use lib.Dec.{ltb}
-use borrow.Author.Tests.{lt-ltb, le-ltb, le-leb, lt-leb, ne-eqb, ltb-true, ltb-false}
+use borrow.Author.Tests.{lt-ltb, le-ltb, ltb-true, ltb-false}
 use Rattle.section.specs.Pick.{pick}
 use Rattle.section.specs.Check.{onCheck}
-use Rattle.section.specs.Rule.{wordsMost}
+use Rattle.section.specs.Rule.{wordsRule, WholeWords}
 use Rattle.section.specs.declared.Refusal.{Refusal}
 use Rattle.section.specs.declared.Check.{Check}
 use Rattle.section.specs.declared.Check.the-variants.{Fine, Fault}
 use Rattle.section.proofs.Picks.{pick-each}
-use Rattle.section.proofs.Checks.{need-le, need-eq, and-exact, named}
-use Rattle.instruction.specs.Bytes.{instructionByte, wordsRule, byteOf, Words, WithinWords}
+use Rattle.section.proofs.Rules.{words-exact}
+use Rattle.instruction.specs.Bytes.{instructionByte, byteOf, WithinWords}
 use Rattle.instruction.specs.declared.Byte.{Byte}
 
-module _ (w : List ℕ) where
-  pub words-exact : (wordsRule w ≡ Fine) ↔ Words w
-  unfolding wordsRule
-  words-exact =
-      named (and-exact _ _ (need-le (length w) wordsMost Refusal.Section) (need-eq (length w % 4) 0 Refusal.Section)) (λ p. record { short = p .0; whole = p .1 }) (λ x. (x .short, x .whole))
-
 module _ (w : List ℕ) (k : ℕ) where
-  pub byte-long : wordsMost < length w → byteOf w k ≡ Byte.Refused Refusal.Section
-  unfolding byteOf wordsRule
-  byte-long h = rw (lt-leb (length w) wordsMost h)
-
-  pub byte-partial : length w ≤ wordsMost → (length w % 4 ≡ 0 → ⊥) → byteOf w k ≡ Byte.Refused Refusal.Section
-  unfolding byteOf wordsRule
-  byte-partial h g = rw (le-leb (length w) wordsMost h, ne-eqb (length w % 4) 0 g)
-
-  pub byte-past : Words w → length w ≤ k → byteOf w k ≡ Byte.End
+  pub byte-refused : (r : Refusal) → wordsRule (length w) ≡ Fault r → byteOf w k ≡ Byte.Refused r
   unfolding byteOf
-  byte-past x h = rw (words-exact w .1 x, le-ltb k (length w) h)
+  byte-refused r e = rw e
 
-  pub byte-here : Words w → k < length w → byteOf w k ≡ Byte.Is (instructionByte w k)
+  pub byte-past : WholeWords (length w) → length w ≤ k → byteOf w k ≡ Byte.End
   unfolding byteOf
-  byte-here x h = rw (words-exact w .1 x, lt-ltb k (length w) h)
+  byte-past x h = rw (words-exact (length w) .1 x, le-ltb k (length w) h)
+
+  pub byte-here : WholeWords (length w) → k < length w → byteOf w k ≡ Byte.Is (instructionByte w k)
+  unfolding byteOf
+  byte-here x h = rw (words-exact (length w) .1 x, lt-ltb k (length w) h)
 
   -- what holds of a byte that is there, of the end and of each refusal holds of what stands at a position
-  pub byte-each : (P : Byte → Type 0) → (Words w → k < length w → P (Byte.Is (instructionByte w k))) → (Words w → length w ≤ k → P Byte.End) → ((r : Refusal) → wordsRule w ≡ Fault r → P (Byte.Refused r)) → P (byteOf w k)
+  pub byte-each : (P : Byte → Type 0) → (WholeWords (length w) → k < length w → P (Byte.Is (instructionByte w k))) → (WholeWords (length w) → length w ≤ k → P Byte.End) → ((r : Refusal) → wordsRule (length w) ≡ Fault r → P (Byte.Refused r)) → P (byteOf w k)
   unfolding byteOf
-  byte-each P is end refused = go (wordsRule w) refl
+  byte-each P is end refused = go (wordsRule (length w)) refl
     where
-      go : (x : Check) → wordsRule w ≡ x → P (onCheck x (pick (ltb k (length w)) (Byte.Is (instructionByte w k)) Byte.End) Byte.Refused)
+      go : (x : Check) → wordsRule (length w) ≡ x → P (onCheck x (pick (ltb k (length w)) (Byte.Is (instructionByte w k)) Byte.End) Byte.Refused)
       go Fine e =
-          let x = words-exact w .0 e in
+          let x = words-exact (length w) .0 e in
           pick-each P (ltb k (length w)) (Byte.Is (instructionByte w k)) Byte.End (λ t. is x (ltb-true _ _ t)) (λ t. end x (ltb-false _ _ t))
       go (Fault r) e = refused r e
 

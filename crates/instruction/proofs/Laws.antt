@@ -15,13 +15,15 @@ use Rattle.section.specs.declared.Check.the-variants.{Fault}
 use Rattle.section.proofs.Picks.{pick-both}
 use Rattle.section.proofs.Checks.{no-fault}
 use Rattle.section.proofs.Ends.{end-each}
-use Rattle.instruction.specs.Bytes.{byteOf, onByte, wordsRule, Words, WithinWords}
+use Rattle.instruction.specs.Bytes.{byteOf, onByte, WithinWords}
 use Rattle.instruction.specs.Decode.{errorAt, withSecond, sizeOf, popMask, toSp, popRun, lowMask, bytesFrom, longOf, endedLong, popLong, vfpPop, singleOf, opcodeOf, decodeOf, Named}
 use Rattle.instruction.specs.declared.Byte.{Byte}
 use Rattle.instruction.specs.declared.Instruction.{Instruction}
 use Rattle.instruction.specs.declared.Decoded.{Decoded}
 use Rattle.instruction.specs.declared.Decoded.the-variants.{Step}
-use Rattle.instruction.proofs.Bytes.{words-exact, byte-each}
+use Rattle.section.specs.Rule.{wordsRule, WholeWords}
+use Rattle.section.proofs.Rules.{words-exact}
+use Rattle.instruction.proofs.Bytes.{byte-each}
 
 -- ---- a second byte c
 module _ (w : List ℕ) (n c : ℕ) (e : byteOf w n ≡ Byte.Is c) where
@@ -106,7 +108,7 @@ module _ (w : List ℕ) (n : ℕ) (inside : WithinWords w n) where
       byte-each w n (λ x. Taken n (onByte x f (errorAt w) Decoded.Refused))
       (λ _ _. t _)
       (λ _ _. error-taken)
-      (λ r e. no-fault r (sym e ∙ words-exact w .1 (inside .words)))
+      (λ r e. no-fault r (sym e ∙ words-exact (length w) .1 (inside .words)))
 
   long-taken : Taken n (popLong w n)
   unfolding popLong longOf
@@ -135,14 +137,14 @@ module _ (w : List ℕ) (n : ℕ) (inside : WithinWords w n) where
 
 -- what is known of an instruction that was decoded at k, with the next position m
 pub record Read (w : List ℕ) (k : ℕ) (i : Instruction) (m : ℕ) : Type 0 where
-  pub words : Words w
+  pub words : WholeWords (length w)
   pub within : k < length w
   pub onward : k < m
   pub register : Named i
 
 module _ (w : List ℕ) (k : ℕ) where
   -- what holds of each instruction, of the end and of each refusal holds of what is decoded
-  pub decode-each : (P : Decoded → Type 0) → ((i : Instruction) (m : ℕ) → Read w k i m → P (Step i m)) → (Words w → length w ≤ k → P Decoded.End) → ((r : Refusal) → wordsRule w ≡ Fault r → P (Decoded.Refused r)) → P (decodeOf w k)
+  pub decode-each : (P : Decoded → Type 0) → ((i : Instruction) (m : ℕ) → Read w k i m → P (Step i m)) → (WholeWords (length w) → length w ≤ k → P Decoded.End) → ((r : Refusal) → wordsRule (length w) ≡ Fault r → P (Decoded.Refused r)) → P (decodeOf w k)
   unfolding decodeOf
   decode-each P step-case end-case refused-case =
       byte-each w k (λ x. P (onByte x (opcodeOf w (k + 1)) Decoded.End Decoded.Refused))
@@ -150,7 +152,7 @@ module _ (w : List ℕ) (k : ℕ) where
       end-case
       refused-case
     where
-      go : {d : Decoded} → Words w → k < length w → Taken (k + 1) d → P d
+      go : {d : Decoded} → WholeWords (length w) → k < length w → Taken (k + 1) d → P d
       go x h (step {i = i} {m = m} g t) = step-case i m (record { words = x; within = h; onward = omega arith; register = t })
 
   -- an instruction that is decoded starts within words that pass, and the walk goes on
@@ -162,17 +164,17 @@ module _ (w : List ℕ) (k : ℕ) where
       (λ r x e. let z : _≡_ {A = ℕ} 0 1 = cc in absurd (omega arith))
 
   -- whole words are never refused
-  pub decode-whole : {X : Type 0} → Words w → (r : Refusal) → decodeOf w k ≡ Decoded.Refused r → X
+  pub decode-whole : {X : Type 0} → WholeWords (length w) → (r : Refusal) → decodeOf w k ≡ Decoded.Refused r → X
   decode-whole {X} x r =
       decode-each (λ d. d ≡ Decoded.Refused r → X)
       (λ i m h e. let z : _≡_ {A = ℕ} 0 1 = cc in absurd (omega arith))
       (λ _ _ e. let z : _≡_ {A = ℕ} 0 1 = cc in absurd (omega arith))
-      (λ q e _. no-fault q (sym e ∙ words-exact w .1 x))
+      (λ q e _. no-fault q (sym e ∙ words-exact (length w) .1 x))
 
   -- past the last byte of whole words is the end
-  pub decode-past : Words w → length w ≤ k → decodeOf w k ≡ Decoded.End
+  pub decode-past : WholeWords (length w) → length w ≤ k → decodeOf w k ≡ Decoded.End
   decode-past x h =
       decode-each (λ d. d ≡ Decoded.End)
       (λ i m r. absurd (omega arith))
       (λ _ _. refl)
-      (λ r e. no-fault r (sym e ∙ words-exact w .1 x))
+      (λ r e. no-fault r (sym e ∙ words-exact (length w) .1 x))

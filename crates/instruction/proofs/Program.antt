@@ -17,7 +17,7 @@ use Rattle.section.specs.declared.Check.the-variants.{Fine, Fault}
 use Rattle.section.proofs.Picks.{by-test}
 use Rattle.section.proofs.Checks.{need-le, and-exact, named, no-fault}
 use Rattle.section.proofs.Walks.{walk-exact, trail-item, trail-done, trail-bad, trail-last, checked-end, checked-stop, checked-more}
-use Rattle.instruction.specs.Bytes.{Words}
+use Rattle.section.specs.Rule.{WholeWords}
 use Rattle.instruction.specs.Decode.{decodeOf, Named}
 use Rattle.instruction.specs.Program.{endsOf, lookOf, instructionAt, programOf, faultOf, auditInstructionsOf, Executable, CleanInstructions, Audited}
 use Rattle.instruction.specs.declared.Instruction.{Instruction}
@@ -98,7 +98,7 @@ pub data Every (P : Instruction → Type 0) : Trail Instruction → Type 0 where
   end : Every P Trail.end
   more : {i : Instruction} {t : Trail Instruction} → P i → Every P t → Every P (Trail.more i t)
 
-every-from : (w : List ℕ) → Words w → (n at : ℕ) → length w ≤ at + n → Every Named (programOf w at)
+every-from : (w : List ℕ) → WholeWords (length w) → (n at : ℕ) → length w ≤ at + n → Every Named (programOf w at)
 every-from w x zero at h = rw (program-end w at (decode-past w at x (omega arith))) Every.end
 every-from w x (suc n) at h =
     decode-each w at (λ d. decodeOf w at ≡ d → Every Named (programOf w at))
@@ -110,7 +110,7 @@ every-from w x (suc n) at h =
     (λ r _ e. decode-whole w at x r e)
     refl
 
-pub program-every : (w : List ℕ) → Words w → (at : ℕ) → Every Named (programOf w at)
+pub program-every : (w : List ℕ) → WholeWords (length w) → (at : ℕ) → Every Named (programOf w at)
 program-every w x at = every-from w x (length w) at (omega arith)
 
 -- ---- the audit from a position
@@ -172,5 +172,5 @@ trail-audited : {P : Instruction → Type 0} {t : Trail Instruction} → Every P
 trail-audited Every.end = rw (checked-end faultOf) Audited.fine
 trail-audited (Every.more {i = i} {t = t} p u) = rw (checked-more faultOf i t) (both-audited (faultOf i) _ (fault-audited i) (trail-audited u))
 
-pub audit-audited : (w : List ℕ) (skip : ℕ) → Words w → skip ≤ 2 → Audited (auditInstructionsOf w skip)
+pub audit-audited : (w : List ℕ) (skip : ℕ) → WholeWords (length w) → skip ≤ 2 → Audited (auditInstructionsOf w skip)
 audit-audited w skip x h = rw (audit-from w skip h) (trail-audited (program-every w x skip))

@@ -43,17 +43,16 @@ pub enum Decoded {
 pub fn byte_at(words: &[u8], at: u32) -> Byte
     ensures { λ r. ⌜ r ≡ byteOf (now (words .entry)) at ⌝ }
 {
-    let n = words.len();
-    if section::WORDS_MOST < n {
-        return Byte::Refused(Refusal::Section);
+    match section::words_rule(words.len()) {
+        Check::Fault(r) => Byte::Refused(r),
+        Check::Fine => {
+            if (at as usize) < words.len() {
+                Byte::Is(order::byte(words, at))
+            } else {
+                Byte::End
+            }
+        }
     }
-    if n % 4 != 0 {
-        return Byte::Refused(Refusal::Section);
-    }
-    if n <= at as usize {
-        return Byte::End;
-    }
-    Byte::Is(order::byte(words, at))
 }
 
 // The instruction at a position, and the position after it.

@@ -4,13 +4,7 @@ ghost use Rattle.instruction.specs.Bytes.{WithinWords};
 ghost use Rattle.instruction.specs.Decode.{popLong, longOf};
 use crate::Decoded;
 use crate::Instruction;
-
-// A byte as a wide number.
-fn wide(x: u8) -> u64
-    ensures { λ r. ⌜ r ≡ x ⌝ }
-{
-    x as u64
-}
+use section::wide;
 
 // The pop of a value that ends before `next`.
 fn long(words: &[u8], next: u32, value: u64) -> Decoded

@@ -30,7 +30,7 @@ fn answer_of(table: &[u8], counter: Addr, entry: u32, found: Found) -> Looked
             Looked::Compact(entry, f, held, selector)
         }
         Found::Generic(f, personality, _, language) => {
-            let data = section::suffix(table, language.0 as usize);
+            let data = entry::language_from(table, language);
             match lsda::call_site(data, f, counter) {
                 SiteFound::Is(site) => Looked::Generic(entry, f, personality, site),
                 SiteFound::Refused(r) => Looked::Refused(r),

@@ -5,9 +5,9 @@ ghost use lib.ListN.{length};
 ghost use Rattle.section.specs.Rule.{tableMost};
 ghost use Rattle.pointer.specs.Number.{lebOf};
 use crate::number::Number;
-use crate::number::wide;
 use section::Off;
 use section::Refusal;
+use section::wide;
 
 pub(crate) fn read(data: &[u8], at: Off) -> Number
     requires { ⌜ length (now «data») ≤ tableMost ⌝ }

@@ -11,13 +11,6 @@ pub(crate) enum Number {
     Refused(Refusal),
 }
 
-// A byte as a wide number.
-pub(crate) fn wide(x: u8) -> u64
-    ensures { λ r. ⌜ r ≡ x ⌝ }
-{
-    x as u64
-}
-
 // A number that stands for itself.
 pub(crate) fn unsigned(n: Number) -> Read
     ensures { λ r. ⌜ r ≡ unsignedOf n ⌝ }

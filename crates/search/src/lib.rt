@@ -1,9 +1,8 @@
 // The search of the index: the entry whose function is at or below a counter, by halving.
 ghost use mathlib.Core.Path.{_≡_};
-ghost use Prim.Native.Nat.{_*_, _/_, _<_};
+ghost use Prim.Native.Nat.{_/_};
 ghost use lib.ListN.{length};
 ghost use Rattle.section.specs.Rule.{indexRule};
-ghost use Rattle.section.specs.Word.{word};
 ghost use Rattle.section.specs.declared.Check.{Check};
 ghost use Rattle.search.specs.Search.{halve, searchOf};
 use entry::FunctionRead;
@@ -24,15 +23,6 @@ pub enum Searched {
     Refused(Refusal),
 }
 
-// The function word of an entry that is there: no number is tested and no answer is made on the way of the halving.
-fn function_word(index: &[u8], number: u32) -> u32
-    requires { ⌜ number < length (now index) / 8 ⌝ }
-    ensures { λ r. ⌜ r ≡ word (now (index .entry)) (8 * number) ⌝ }
-{
-    let o = 8 * number as usize;
-    section::from_le(index[o], index[o + 1], index[o + 2], index[o + 3])
-}
-
 // Halves 0 .. entries, the first function having been read.
 fn halved(index: &[u8], index_address: Addr, counter: Addr, first: Addr, entries: u32) -> Searched
     requires { ⌜ (indexRule (length (now index)) «index_address» ≡ Check.Fine) × (entries ≡ length (now index) / 8) ⌝ }
@@ -44,11 +34,12 @@ fn halved(index: &[u8], index_address: Addr, counter: Addr, first: Addr, entries
     let mut probes: u32 = 1;
     while 1 < high - low {
         let middle = (low + high) / 2;
-        let w = function_word(index, middle);
+        let at = Off(8 * middle);
+        let w = section::word_or_zero(index, at);
         if 0x8000_0000 <= w {
             return Searched::Refused(Refusal::Corrupt);
         }
-        let f = section::prel31(w, section::address_of(index_address, Off(8 * middle)));
+        let f = section::prel31(w, section::address_of(index_address, at));
         probes = probes + 1;
         if f.0 <= counter.0 {
             low = middle;

@@ -8,3 +8,4 @@ pub mod Ends
 pub mod Words
 pub mod Views
 pub mod Walks
+pub mod Answers

@@ -38,7 +38,20 @@ module _ (s : Addr) (len : ℕ) (a : Addr) where
       (λ u. let h = offset-in b (ltb-true _ _ u) in let k : a .0 - s .0 ≡ o .0 = cc in omega (arith, ltb-true (a .0 - s .0) len u))
       (λ u. let h = offset-past b (ltb-false _ _ u) in let z : _≡_ {A = ℕ} 0 1 = cc in absurd (omega arith)))
 
--- the two conversions are inverses: an offset inside a section has an address, which leads back to it
+  -- the two conversions are inverses: the address of an offset that was found is the one it was found for ..
+  pub address-back : a .0 < 2 ^ 32 → (o : Off) → offsetOf s len a ≡ At o → addressOf s o ≡ a
+  address-back h o e =
+      by-test (ltb (a .0) (s .0))
+      (λ t. let g = offset-below (ltb-true _ _ t) in let z : _≡_ {A = ℕ} 0 1 = cc in absurd (omega arith))
+      (λ t. let b = ltb-false (a .0) (s .0) t in
+      by-test (ltb (a .0 - s .0) len)
+      (λ u. let g = offset-in b (ltb-true _ _ u) in let k : a .0 - s .0 ≡ o .0 = cc in ap addr (sum k b))
+      (λ u. let g = offset-past b (ltb-false _ _ u) in let z : _≡_ {A = ℕ} 0 1 = cc in absurd (omega arith)))
+    where
+      sum : a .0 - s .0 ≡ o .0 → s .0 ≤ a .0 → (s .0 + o .0) % 2 ^ 32 ≡ a .0
+      sum k b = omega (arith, h, k, b)
+
+-- .. and an offset inside a section has an address, which leads back to it
 pub offset-back : (s : Addr) (len : ℕ) (o : Off) → s .0 + len ≤ 2 ^ 32 → o .0 < len → offsetOf s len (addressOf s o) ≡ At o
 offset-back s len o h g =
     let e : (s .0 + o .0) % 2 ^ 32 ≡ s .0 + o .0 = omega arith in

@@ -1,12 +1,12 @@
--- The section rule passes exactly the sections that it describes, and its only fault is 1. Assumes nothing.
+-- The section rule passes exactly the sections that it describes, and its only fault is 1; so does the rule of instruction words. Assumes nothing.
 use Prim.Native.Nat.{ℕ, _+_, _%_, _^_, _≤_, _<_}
 use mathlib.Core.Path.{_≡_}
 use mathlib.Core.Bool.{Bool, true, false}
 use mathlib.Core.Logic.{_↔_}
 use lib.Dec.{leb, eqb}
-use borrow.Author.Tests.{le-leb, lt-leb}
+use borrow.Author.Tests.{le-leb, lt-leb, ne-eqb}
 use Rattle.section.specs.Check.{andThen, need}
-use Rattle.section.specs.Rule.{indexMost, ruleOf, indexRule, Section, IndexSection}
+use Rattle.section.specs.Rule.{indexMost, wordsMost, ruleOf, indexRule, wordsRule, Section, IndexSection, WholeWords}
 use Rattle.section.specs.declared.Addr.{Addr}
 use Rattle.section.specs.declared.Refusal.{Refusal}
 use Rattle.section.specs.declared.Check.{Check}
@@ -23,7 +23,20 @@ unfolding indexRule
 index-exact len a =
     named (and-exact _ _ (section-exact indexMost len a) (need-eq (len % 8) 0 Refusal.Section)) (λ p. record { section = p .0; whole = p .1 }) (λ s. (s .section, s .whole))
 
--- ---- one law for each way through the rule
+pub words-exact : (len : ℕ) → (wordsRule len ≡ Fine) ↔ WholeWords len
+unfolding wordsRule
+words-exact len =
+    named (and-exact _ _ (need-le len wordsMost Refusal.Section) (need-eq (len % 4) 0 Refusal.Section)) (λ p. record { short = p .0; whole = p .1 }) (λ x. (x .short, x .whole))
+
+-- ---- one law for each way through the rules
+pub words-long : (len : ℕ) → wordsMost < len → wordsRule len ≡ Fault Refusal.Section
+unfolding wordsRule
+words-long len h = rw (lt-leb len wordsMost h)
+
+pub words-partial : (len : ℕ) → len ≤ wordsMost → (len % 4 ≡ 0 → ⊥) → wordsRule len ≡ Fault Refusal.Section
+unfolding wordsRule
+words-partial len h g = rw (le-leb len wordsMost h, ne-eqb (len % 4) 0 g)
+
 module _ (most len : ℕ) (a : Addr) where
   pub rule-long : most < len → ruleOf len most a ≡ Fault Refusal.Section
   unfolding ruleOf
@@ -59,6 +72,10 @@ rule-section most len a = and-section _ _ (need-section (leb len most)) (need-se
 
 pub rule-fault : (most len : ℕ) (a : Addr) (r : Refusal) → ruleOf len most a ≡ Fault r → r ≡ Refusal.Section
 rule-fault most len a r e = section-told _ r (rule-section most len a) e
+
+pub words-fault : (len : ℕ) (r : Refusal) → wordsRule len ≡ Fault r → r ≡ Refusal.Section
+unfolding wordsRule
+words-fault len r e = section-told _ r (and-section _ _ (need-section (leb len wordsMost)) (need-section (eqb (len % 4) 0))) e
 
 pub index-fault : (len : ℕ) (a : Addr) (r : Refusal) → indexRule len a ≡ Fault r → r ≡ Refusal.Section
 unfolding indexRule

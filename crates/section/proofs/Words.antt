@@ -1,5 +1,5 @@
 -- Laws of little-endian words: what a crate above cites, so that it never unfolds `wordAt`. Assumes nothing.
-use mathlib.Core.Path.{_≡_}
+use mathlib.Core.Path.{_≡_, sym, _∙_}
 use mir.Val.{Fits}
 use mir.Syntax.{w8}
 use Prim.Native.Nat.{ℕ, _+_, _≤_, _<_}
@@ -9,7 +9,7 @@ use lib.Dec.{leb}
 use native.Mathlib.Nat.{add-zero}
 use native.Mathlib.Omega.{arith}
 use borrow.Author.Tests.{le-leb, lt-leb, leb-true, leb-false}
-use Rattle.section.specs.Word.{le32, word, wordAt}
+use Rattle.section.specs.Word.{le32, word, wordAt, wordOrZero}
 use Rattle.section.specs.declared.Word.the-variants.{At, Short}
 use Rattle.section.proofs.Picks.{by-test}
 
@@ -21,6 +21,14 @@ module _ (xs : List ℕ) (o : ℕ) where
   pub word-out : length xs < o + 4 → wordAt xs o ≡ Short
   unfolding wordAt
   word-out h = simp (lt-leb _ _ h)
+
+  pub word-there : o + 4 ≤ length xs → wordOrZero xs o ≡ word xs o
+  unfolding wordOrZero
+  word-there h = simp (le-leb _ _ h)
+
+  word-zero : length xs < o + 4 → wordOrZero xs o ≡ 0
+  unfolding wordOrZero
+  word-zero h = simp (lt-leb _ _ h)
 
   -- a word that was read was there
   pub word-here : (w : ℕ) → wordAt xs o ≡ At w → (o + 4 ≤ length xs) × (w ≡ word xs o)
@@ -35,6 +43,13 @@ module _ (xs : List ℕ) (o : ℕ) where
       by-test (leb (o + 4) (length xs))
       (λ t. let h = word-in (leb-true _ _ t) in let z : _≡_ {A = ℕ} 0 1 = cc in absurd (omega arith))
       (λ f. leb-false _ _ f)
+
+  -- by what was read
+  pub word-or-at : (w : ℕ) → wordAt xs o ≡ At w → wordOrZero xs o ≡ w
+  word-or-at w e = word-there (word-here w e .0) ∙ sym (word-here w e .1)
+
+  pub word-or-short : wordAt xs o ≡ Short → wordOrZero xs o ≡ 0
+  word-or-short e = word-zero (word-gone e)
 
   -- the four bytes there, each below 256, are the word's digits
   pub word-bytes : ((i : ℕ) → Fits w8 (getD xs i 0)) → le32 (getD xs o 0) (getD xs (o + 1) 0) (getD xs (o + 2) 0) (getD xs (o + 3) 0) ≡ word xs o

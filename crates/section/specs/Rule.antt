@@ -34,6 +34,10 @@ tableRule len a = ruleOf len tableMost a
 abbrev pub stackRule : ℕ → Addr → Check
 stackRule len a = ruleOf len stackMost a
 
+-- instruction words: a multiple of 4 bytes, wherever they stand
+unfoldable pub wordsRule : ℕ → Check
+wordsRule len = andThen (need (leb len wordsMost) Refusal.Section) (need (eqb (len % 4) 0) Refusal.Section)
+
 -- ---- what passes, in words
 pub record Section (most len : ℕ) (a : Addr) : Type 0 where
   pub short : len ≤ most
@@ -42,3 +46,7 @@ pub record Section (most len : ℕ) (a : Addr) : Type 0 where
 pub record IndexSection (len : ℕ) (a : Addr) : Type 0 where
   pub section : Section indexMost len a
   pub whole : len % 8 ≡ 0
+
+pub record WholeWords (len : ℕ) : Type 0 where
+  pub short : len ≤ wordsMost
+  pub whole : len % 4 ≡ 0

@@ -20,6 +20,10 @@ word xs o = digits 256 (bytesAt xs o) 4
 unfoldable pub wordAt : List ℕ → ℕ → Word
 wordAt xs o = pick (leb (o + 4) (length xs)) (At (word xs o)) Short
 
+-- and 0 where it is not
+unfoldable pub wordOrZero : List ℕ → ℕ → ℕ
+wordOrZero xs o = pick (leb (o + 4) (length xs)) (word xs o) 0
+
 -- what is made of a word that was read
 abbrev pub onWord : {X : Type 0} → Word → (ℕ → X) → X → X
 onWord (At w) f x = f w

@@ -2,11 +2,11 @@
 ghost use mathlib.Core.Path.{_≡_};
 ghost use lib.ListN.{length};
 ghost use Rattle.section.specs.Number.{number};
-ghost use Rattle.section.specs.Rule.{ruleOf, indexRule, tableRule, stackRule};
+ghost use Rattle.section.specs.Rule.{ruleOf, indexRule, tableRule, stackRule, wordsRule};
 ghost use Rattle.section.specs.Place.{addressOf, offsetOf};
 ghost use Rattle.section.specs.Prel31.{prel31Of};
 ghost use Rattle.section.specs.Sum.{plusOf};
-ghost use Rattle.section.specs.Word.{le32, wordAt};
+ghost use Rattle.section.specs.Word.{le32, wordAt, wordOrZero};
 ghost use Rattle.section.specs.View.{Part, partFrom, suffixFrom};
 
 // The most bytes of an index, of a table or language data, of a stack, and of instruction words.
@@ -123,6 +123,20 @@ pub fn stack_rule(len: usize, at: Addr) -> Check
     rule(len, STACK_MOST, at)
 }
 
+// Whether `len` bytes are instruction words.
+pub fn words_rule(len: usize) -> Check
+    ensures { λ r. ⌜ r ≡ wordsRule len ⌝ }
+{
+    if WORDS_MOST < len {
+        return Check::Fault(Refusal::Section);
+    }
+    if len % 4 == 0 {
+        Check::Fine
+    } else {
+        Check::Fault(Refusal::Section)
+    }
+}
+
 // The address of an offset in a section: the one way from an offset to an address.
 pub fn address_of(section: Addr, at: Off) -> Addr
     ensures { λ r. ⌜ r ≡ addressOf section at ⌝ }
@@ -185,8 +199,15 @@ pub enum Word {
     Short,
 }
 
+// A byte as a wide number, so that a sum of its multiples has room.
+pub fn wide(x: u8) -> u64
+    ensures { λ r. ⌜ r ≡ x ⌝ }
+{
+    x as u64
+}
+
 // Four bytes as a number, the first the lowest.
-pub fn from_le(a: u8, b: u8, c: u8, d: u8) -> u32
+fn from_le(a: u8, b: u8, c: u8, d: u8) -> u32
     ensures { λ r. ⌜ r ≡ le32 a b c d ⌝ }
 {
     (a as u32) + 0x100 * (b as u32) + 0x1_0000 * (c as u32) + 0x100_0000 * (d as u32)
@@ -201,6 +222,16 @@ pub fn word_at(s: &[u8], at: Off) -> Word
         Word::At(from_le(s[o], s[o + 1], s[o + 2], s[o + 3]))
     } else {
         Word::Short
+    }
+}
+
+// The word at an offset, for a caller that knows it to be there: 0 where it runs past the end.
+pub fn word_or_zero(s: &[u8], at: Off) -> u32
+    ensures { λ r. ⌜ r ≡ wordOrZero (now (s .entry)) (at .0) ⌝ }
+{
+    match word_at(s, at) {
+        Word::At(w) => w,
+        Word::Short => 0,
     }
 }
 

@@ -3,6 +3,7 @@
 use Prim.Native.Nat.{ℕ, _+_, _≤_}
 use mathlib.Core.Path.{_≡_, refl, sym, _∙_}
 use mathlib.Core.List.{List}
+use lib.ListN.{length}
 use mathlib.Core.Bool.{Bool, false}
 use lib.Dec.{leb}
 use Rattle.section.specs.Walk.{Trail, checked}
@@ -12,7 +13,7 @@ use Rattle.section.specs.declared.Check.the-variants.{Fine, Fault}
 use Rattle.section.proofs.Picks.{pick-each}
 use Rattle.section.proofs.Checks.{no-fault}
 use Rattle.section.proofs.Walks.{checked-stop, more-fine}
-use Rattle.instruction.specs.Bytes.{Words}
+use Rattle.section.specs.Rule.{WholeWords}
 use Rattle.instruction.specs.Program.{programOf, faultOf, auditInstructionsOf, Audited}
 use Rattle.instruction.specs.declared.Instruction.{Instruction}
 use Rattle.instruction.proofs.Program.{Every, program-every, fault-audited, instructions-exact, audit-from}
@@ -78,7 +79,7 @@ module _ (w : List ℕ) (skip : ℕ) (st : List ℕ) (base : Addr) (given : Regi
       false
       0)
 
-  pub whole-run : Words w → skip ≤ 2 → Ended (runOf w skip st base given .arrival)
+  pub whole-run : WholeWords (length w) → skip ≤ 2 → Ended (runOf w skip st base given .arrival)
   whole-run x h =
       rw (run-from w skip st base given h)
       (runs Ended st base given Ended.frame

@@ -8,7 +8,7 @@ use Rattle.section.specs.declared.Addr.{Addr}
 use Rattle.section.specs.declared.Off.{Off}
 use Rattle.section.specs.declared.Refusal.{Refusal}
 use Rattle.section.specs.declared.Check.{Check}
-use Rattle.entry.specs.Parts.{chosen, wordsIn}
+use Rattle.entry.specs.Parts.{heldWords}
 use Rattle.entry.specs.declared.Span.{Span}
 use Rattle.image.specs.Image.{Image, sectionsOf, entryAt, ledBy}
 use Rattle.image.specs.declared.Found.{Found}
@@ -25,7 +25,7 @@ use Rattle.step.specs.declared.Arrival.{Arrival}
 use Rattle.step.proofs.Clean.{clean-run}
 
 -- the run of a span's words, w, is the step by the span
-pub span-ran : (xs ys st : List ℕ) (base : Addr) (given : Registers) (s : Span) {w : List ℕ} → w ≡ wordsIn (chosen (s .held) xs ys) s → {x : Stepped}
+pub span-ran : (xs ys st : List ℕ) (base : Addr) (given : Registers) (s : Span) {w : List ℕ} → w ≡ heldWords xs ys s → {x : Stepped}
     → runOf w (s .skip) st base given ≡ x → x ≡ ranBy xs ys st base given s
 span-ran xs ys st base given s words ran = sym ran ∙ ap (λ (l : List ℕ). runOf l (s .skip) st base given) words
 
@@ -35,9 +35,9 @@ module _ (xs ys st : List ℕ) (base : Addr) (given : Registers) where
   unfolding steppedBy
   cannot-arrives f = refl
 
-  module _ (s : Span) (clean : auditInstructionsOf (wordsIn (chosen (s .held) xs ys) s) (s .skip) ≡ Check.Fine) where
+  module _ (s : Span) (clean : auditInstructionsOf (heldWords xs ys s) (s .skip) ≡ Check.Fine) where
     ran-arrives : Arrives (ranBy xs ys st base given s .arrival)
-    ran-arrives = clean-run (wordsIn (chosen (s .held) xs ys) s) (s .skip) st base given clean
+    ran-arrives = clean-run (heldWords xs ys s) (s .skip) st base given clean
 
     pub compact-arrives : (f : Addr) (n : ℕ) → Arrives (steppedBy xs ys st base given (Found.Compact f n s) .arrival)
     unfolding steppedBy

@@ -6,7 +6,7 @@ use Rattle.section.specs.Check.{onCheck}
 use Rattle.section.specs.Place.{addr}
 use Rattle.section.specs.Rule.{stackRule}
 use Rattle.section.specs.declared.Addr.{Addr}
-use Rattle.entry.specs.Parts.{chosen, wordsIn}
+use Rattle.entry.specs.Parts.{heldWords}
 use Rattle.entry.specs.declared.Span.{Span}
 use Rattle.image.specs.Image.{Image, sectionsOf, entryAt}
 use Rattle.image.specs.declared.Found.{Found}
@@ -20,7 +20,7 @@ use Rattle.step.specs.declared.Moved.{Moved}
 
 -- the instructions of a span, from whichever section holds them
 abbrev pub ranBy : List ℕ → List ℕ → List ℕ → Addr → Registers → Span → Stepped
-ranBy xs ys st base given s = runOf (wordsIn (chosen (s .held) xs ys) s) (s .skip) st base given
+ranBy xs ys st base given s = runOf (heldWords xs ys s) (s .skip) st base given
 
 -- cannot-unwind hands back the registers given; a step reads instructions and no language data
 unfoldable pub steppedBy : List ℕ → List ℕ → List ℕ → Addr → Registers → Found → Stepped

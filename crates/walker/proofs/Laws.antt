@@ -1,47 +1,32 @@
 -- Where a walk may start, one law for each way to an answer, and that its first byte is the one at the skip. Assumes nothing.
-use Prim.Native.Nat.{ℕ, _%_, _≤_, _<_}
+use Prim.Native.Nat.{ℕ, _≤_, _<_}
 use mathlib.Core.Path.{_≡_, refl, ap, _∙_}
 use mathlib.Core.List.{List}
-use native.Mathlib.Omega.{arith}
 use lib.ListN.{length}
 use lib.Seq.{take-length}
 use borrow.Author.Tests.{le-leb, lt-leb}
 use denote.Ref.{RefT, now}
-use Rattle.section.specs.Rule.{wordsMost}
+use Rattle.section.specs.Rule.{wordsRule}
 use Rattle.section.specs.View.{bytesOf, Part}
 use Rattle.section.specs.declared.Check.{Check}
 use Rattle.section.specs.declared.Refusal.{Refusal}
 use Rattle.section.specs.declared.Check.the-variants.{Fine, Fault}
-use Rattle.instruction.specs.Bytes.{wordsRule, byteOf, Words}
+use Rattle.instruction.specs.Bytes.{byteOf}
 use Rattle.instruction.specs.declared.Byte.{Byte}
-use Rattle.instruction.proofs.Bytes.{words-exact, byte-long, byte-partial, byte-each}
 use Rattle.walker.specs.Walker.{startRule, startSpot, startPos, orRefused, firstByte}
 
-module _ (w : List ℕ) where
-  -- what refuses a byte is the rule of the words
-  words-refused : (r : Refusal) → byteOf w 0 ≡ Byte.Refused r → wordsRule w ≡ Fault r
-  words-refused r =
-      byte-each w 0 (λ x. x ≡ Byte.Refused r → wordsRule w ≡ Fault r)
-      (λ _ _ e. let z : _≡_ {A = ℕ} 0 1 = cc in absurd (omega arith))
-      (λ _ _ e. let z : _≡_ {A = ℕ} 0 1 = cc in absurd (omega arith))
-      (λ q h e. let p : q ≡ r = cc in rw (← p) h)
-
 module _ (w : List ℕ) (skip : ℕ) where
-  pub start-long : wordsMost < length w → startRule w skip ≡ Fault Refusal.Section
+  pub start-refused : (r : Refusal) → wordsRule (length w) ≡ Fault r → startRule w skip ≡ Fault r
   unfolding startRule
-  start-long h = rw (words-refused w Refusal.Section (byte-long w 0 h))
+  start-refused r e = rw e
 
-  pub start-partial : length w ≤ wordsMost → (length w % 4 ≡ 0 → ⊥) → startRule w skip ≡ Fault Refusal.Section
+  pub start-skip : wordsRule (length w) ≡ Fine → 2 < skip → startRule w skip ≡ Fault Refusal.Section
   unfolding startRule
-  start-partial h g = rw (words-refused w Refusal.Section (byte-partial w 0 h g))
+  start-skip e h = rw (e, lt-leb skip 2 h)
 
-  pub start-skip : Words w → 2 < skip → startRule w skip ≡ Fault Refusal.Section
+  pub start-fine : wordsRule (length w) ≡ Fine → skip ≤ 2 → startRule w skip ≡ Fine
   unfolding startRule
-  start-skip x h = rw (words-exact w .1 x, lt-leb skip 2 h)
-
-  pub start-fine : Words w → skip ≤ 2 → startRule w skip ≡ Fine
-  unfolding startRule
-  start-fine x h = rw (words-exact w .1 x, le-leb skip 2 h)
+  start-fine e h = rw (e, le-leb skip 2 h)
 
   -- where it starts
   pub spot-all : startRule w skip ≡ Fine → startSpot w skip ≡ (0, length w)

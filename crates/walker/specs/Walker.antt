@@ -4,10 +4,11 @@ use mathlib.Core.List.{List}
 use lib.ListN.{length}
 use lib.Dec.{leb}
 use Rattle.section.specs.Check.{onCheck, andThen, need}
+use Rattle.section.specs.Rule.{wordsRule}
 use Rattle.section.specs.View.{Spot}
 use Rattle.section.specs.declared.Check.{Check}
 use Rattle.section.specs.declared.Refusal.{Refusal}
-use Rattle.instruction.specs.Bytes.{wordsRule, byteOf, onByte}
+use Rattle.instruction.specs.Bytes.{byteOf, onByte}
 use Rattle.instruction.specs.Decode.{decodeOf}
 use Rattle.instruction.specs.declared.Byte.{Byte}
 use Rattle.instruction.specs.declared.Instruction.{Instruction}
@@ -15,7 +16,7 @@ use Rattle.instruction.specs.declared.Decoded.{Decoded}
 
 -- a walk may start on instruction words, with a skip of at most 2
 unfoldable pub startRule : List ℕ → ℕ → Check
-startRule w skip = andThen (wordsRule w) (need (leb skip 2) Refusal.Section)
+startRule w skip = andThen (wordsRule (length w)) (need (leb skip 2) Refusal.Section)
 
 -- then the walker is over all of them, at the skip; else over the empty part at their start, at 0
 unfoldable pub startSpot : List ℕ → ℕ → Spot

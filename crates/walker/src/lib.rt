@@ -41,17 +41,16 @@ pub struct NextInstruction<'a> {
 fn start_rule(bytes: &[u8], skip: u32) -> Check
     ensures { λ r. ⌜ r ≡ startRule (now (bytes .entry)) skip ⌝ }
 {
-    let n = bytes.len();
-    if section::WORDS_MOST < n {
-        return Check::Fault(Refusal::Section);
+    match section::words_rule(bytes.len()) {
+        Check::Fault(r) => Check::Fault(r),
+        Check::Fine => {
+            if skip <= 2 {
+                Check::Fine
+            } else {
+                Check::Fault(Refusal::Section)
+            }
+        }
     }
-    if n % 4 != 0 {
-        return Check::Fault(Refusal::Section);
-    }
-    if 2 < skip {
-        return Check::Fault(Refusal::Section);
-    }
-    Check::Fine
 }
 
 // The part to walk.

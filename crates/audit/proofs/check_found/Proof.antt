@@ -33,11 +33,8 @@ enum-known-r c = search needs
 enum-told-2 : tie.Need-enum-told-2
 enum-told-2 c = search needs
 
-cast-suffix : tie.Need-cast-suffix
-cast-suffix c = search needs
-
-suffix-requires : tie.Need-suffix-requires
-suffix-requires c κs = search needs
+language-from-requires : tie.Need-language-from-requires
+language-from-requires c κs = search needs
 
 audit-sites-requires : tie.Need-audit-sites-requires
 audit-sites-requires c κs = search needs
@@ -56,7 +53,7 @@ returns-3 : tie.Need-returns-3
 returns-3 c = rw (c .before .before .before .before .before .before .found2 .given .1) (found-faulty _ _ _ (words-are _ _ _ _ (c .before .before .before .before .instruction-words2 .ensures)) (c .before .before .before .audit-instructions2 .ensures .0) _ _ _ _ (c .before .r .given .1))
 
 returns-4 : tie.Need-returns-4
-returns-4 c = rw (c .before .before .before .before .before .before .before .before .found2 .given .1) (found-sites _ _ _ (words-are _ _ _ _ (c .before .before .before .before .before .before .instruction-words2 .ensures)) (c .before .before .before .before .before .audit-instructions2 .ensures .0) _ _ _ (c .before .before .before .enum-told2 .given .1) (c .before .suffix .ensures .bytes) (c .audit-sites .ensures .0))
+returns-4 c = rw (c .before .before .before .before .before .before .before .found2 .given .1) (found-sites _ _ _ (words-are _ _ _ _ (c .before .before .before .before .before .instruction-words2 .ensures)) (c .before .before .before .before .audit-instructions2 .ensures .0) _ _ _ (c .before .before .enum-told2 .given .1) (c .before .language-from .ensures .bytes) (c .audit-sites .ensures .0))
 
 returns-5 : tie.Need-returns-5
 unfolding foundCheck
@@ -75,8 +72,7 @@ check-found-spec =
     audit-instructions-requires-2
     enum-known-r
     enum-told-2
-    cast-suffix
-    suffix-requires
+    language-from-requires
     audit-sites-requires
     enum-known-found-3
     returns

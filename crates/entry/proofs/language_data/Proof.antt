@@ -1,6 +1,6 @@
 -- The part from the entry's end on; a refusal's is the empty one at the start. Assumes nothing.
-use mathlib.Core.Path.{refl}
 use Rattle.section.proofs.Views.{empty-made}
+use mathlib.Core.Path.{refl}
 use borrow.Author.Needs.{needs}
 use Rattle.entry.proofs.language_data.Statement.{statement}
 use Rattle.entry.proofs.language_data.Tie as tie
@@ -11,11 +11,8 @@ table-entry-requires c κs = search needs
 enum-known-e : tie.Need-enum-known-e
 enum-known-e c = search needs
 
-cast-suffix : tie.Need-cast-suffix
-cast-suffix c = search needs
-
-suffix-requires : tie.Need-suffix-requires
-suffix-requires c κs = search needs
+language-from-requires : tie.Need-language-from-requires
+language-from-requires c κs = search needs
 
 enum-told : tie.Need-enum-told
 enum-told c = search needs
@@ -30,14 +27,10 @@ part-result-end : tie.Need-part-result-end
 part-result-end c = search needs
 
 returns : tie.Need-returns
-returns c =
-    let v = c .before .before .before .before in
-    rw (← (v .before .before .table-entry .ensures), v .e .given .1) (c .suffix .ensures)
+returns c = rw (← (c .before .before .before .before .before .table-entry .ensures), c .before .before .before .e .given .1) (c .language-from .ensures)
 
 returns-2 : tie.Need-returns-2
-returns-2 c =
-    let t = c .before in
-    rw (← (t .before .before .table-entry .ensures), t .enum-told .given .1) (empty-made _ _ refl refl)
+returns-2 c = rw (← (c .before .before .before .table-entry .ensures), c .before .enum-told .given .1) (empty-made _ _ refl refl)
 
 pub language-data-spec : {M : Type 1} → statement M
 language-data-spec =
@@ -45,8 +38,7 @@ language-data-spec =
     (tie.spec
     table-entry-requires
     enum-known-e
-    cast-suffix
-    suffix-requires
+    language-from-requires
     enum-told
     sub-result
     part-result-start

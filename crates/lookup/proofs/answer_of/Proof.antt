@@ -14,11 +14,8 @@ enum-known-found-2 c = search needs
 enum-known-found-3 : tie.Need-enum-known-found-3
 enum-known-found-3 c = search needs
 
-cast-suffix : tie.Need-cast-suffix
-cast-suffix c = search needs
-
-suffix-requires : tie.Need-suffix-requires
-suffix-requires c κs = search needs
+language-from-requires : tie.Need-language-from-requires
+language-from-requires c κs = search needs
 
 call-site-requires : tie.Need-call-site-requires
 call-site-requires c κs = search needs
@@ -41,10 +38,10 @@ unfolding lookedAt
 returns-2 c = rw (c .before .found2 .given .1)
 
 returns-3 : tie.Need-returns-3
-returns-3 c = rw (c .before .before .before .before .before .before .before .found3 .given .1, looked-generic _ _ _ _ _ _ _ (c .before .before .before .before .suffix .ensures .bytes) (c .before .before .before .call-site .ensures), c .before .site .given .1)
+returns-3 c = rw (c .before .before .before .before .before .before .found3 .given .1, looked-generic _ _ _ _ _ _ _ (c .before .before .before .before .language-from .ensures .bytes) (c .before .before .before .call-site .ensures), c .before .site .given .1)
 
 returns-4 : tie.Need-returns-4
-returns-4 c = rw (c .before .before .before .before .before .before .before .found3 .given .1, looked-generic _ _ _ _ _ _ _ (c .before .before .before .before .suffix .ensures .bytes) (c .before .before .before .call-site .ensures), c .before .r .given .1)
+returns-4 c = rw (c .before .before .before .before .before .before .found3 .given .1, looked-generic _ _ _ _ _ _ _ (c .before .before .before .before .language-from .ensures .bytes) (c .before .before .before .call-site .ensures), c .before .r .given .1)
 
 returns-5 : tie.Need-returns-5
 unfolding lookedAt
@@ -57,8 +54,7 @@ answer-of-spec =
     enum-known-found
     enum-known-found-2
     enum-known-found-3
-    cast-suffix
-    suffix-requires
+    language-from-requires
     call-site-requires
     enum-known-site
     enum-known-r
