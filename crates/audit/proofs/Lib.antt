@@ -2,3 +2,4 @@
 pub mod Turns
 pub mod Exact
 pub mod Promise
+pub mod Reasons

@@ -1,4 +1,5 @@
 pub mod Audit
 pub mod Sound
 pub mod Promise
+pub mod Reasons
 pub mod Answers

@@ -4,7 +4,8 @@ use mathlib.Core.Path.{_≡_, refl, sym, subst, _∙_}
 use mathlib.Core.Logic.{_↔_}
 use native.Mathlib.Omega.{arith}
 use lib.ListN.{length}
-use Rattle.section.specs.Rule.{tableMost}
+use Rattle.section.specs.Check.{andThen}
+use Rattle.section.specs.Rule.{tableMost, indexRule, tableRule}
 use Rattle.section.specs.Place.{offsetOf}
 use Rattle.section.specs.declared.Addr.{Addr}
 use Rattle.section.specs.declared.Off.{Off}
@@ -12,7 +13,7 @@ use Rattle.section.specs.declared.Place.{Place}
 use Rattle.section.specs.declared.Refusal.{Refusal}
 use Rattle.section.specs.declared.Check.{Check}
 use Rattle.section.proofs.Checks.{and-exact, named}
-use Rattle.section.proofs.Rules.{section-exact, index-exact}
+use Rattle.section.proofs.Rules.{section-exact, index-exact, rule-fault, index-fault}
 use Rattle.entry.specs.Index.{functionAt, contentAt, onContent, onIndex}
 use Rattle.entry.specs.Table.{tableEntryOf}
 use Rattle.entry.specs.Parts.{chosen}
@@ -37,6 +38,15 @@ unfolding sectionsOf
 sections-exact i =
     named (and-exact _ _ (index-exact (length (i .index)) (i .indexAt)) (section-exact tableMost (length (i .table)) (i .tableAt)))
     (λ p. record { index = p .0; table = p .1 }) (λ s. (s .index, s .table))
+
+-- their only fault is 1
+pub sections-fault : (i : Image) (r : Refusal) → sectionsOf i ≡ Check.Fault r → r ≡ Refusal.Section
+unfolding sectionsOf
+sections-fault i r e = go (indexRule (length (i .index)) (i .indexAt)) refl e
+  where
+    go : (x : Check) → indexRule (length (i .index)) (i .indexAt) ≡ x → andThen x (tableRule (length (i .table)) (i .tableAt)) ≡ Check.Fault r → r ≡ Refusal.Section
+    go Check.Fine p q = rule-fault tableMost (length (i .table)) (i .tableAt) r q
+    go (Check.Fault y) p q = let k : y ≡ r = cc in sym k ∙ index-fault (length (i .index)) (i .indexAt) y p
 
 -- ---- one law for each way to an entry
 module _ (i : Image) (k : ℕ) where

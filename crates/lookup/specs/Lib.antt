@@ -1,2 +1,3 @@
 pub mod Lookup
+pub mod Reasons
 pub mod Answers

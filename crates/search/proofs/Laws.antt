@@ -11,18 +11,21 @@ use lib.Dec.{leb, ltb, eqb}
 use borrow.Author.Tests.{ltb-true, ltb-false, leb-true, leb-false, eqb-true, eqb-false}
 use Rattle.section.specs.Pick.{pick}
 use Rattle.section.specs.Check.{onCheck}
-use Rattle.section.specs.Rule.{indexRule}
+use Rattle.section.specs.Rule.{indexRule, IndexSection}
 use Rattle.section.specs.declared.Addr.{Addr}
 use Rattle.section.specs.declared.Check.{Check}
 use Rattle.section.specs.declared.Refusal.{Refusal}
 use Rattle.section.proofs.Picks.{by-test, pick-each}
-use Rattle.section.proofs.Rules.{index-exact}
+use Rattle.section.proofs.Checks.{fault-not}
+use Rattle.section.proofs.Rules.{index-exact, index-fault}
 use Rattle.entry.specs.Index.{entries, functionOf, functionAt, onFunction}
 use Rattle.entry.specs.declared.FunctionRead.{FunctionRead}
-use Rattle.entry.proofs.Laws.{function-sound}
+use Rattle.entry.specs.Read.{FunctionGives}
+use Rattle.entry.proofs.Laws.{function-sound, function-gives}
 use Rattle.image.specs.Image.{Image, entryAt, ledBy}
 use Rattle.image.proofs.Laws.{entry-is-led}
 use Rattle.search.specs.Search.{hit, side, halveFrom, halve, searchOf}
+use Rattle.search.specs.Reasons.{NoHit}
 use Rattle.search.specs.Rising.{Begins, Rising, Holds, Located, SearchGives}
 use Rattle.search.specs.declared.Hit.{Hit}
 use Rattle.search.specs.declared.Searched.{Searched}
@@ -30,9 +33,9 @@ use Rattle.search.proofs.Ways.{search-empty, search-below, search-halve
 
 -- ---- what holds of each way on holds of the answer
 on-each : (P : Searched → Type 0) (r : FunctionRead) (go : Addr → Searched)
-    → ((f : Addr) → r ≡ FunctionRead.At f → P (go f)) → ((x : Refusal) → P (Searched.Refused x)) → P (onFunction r go Searched.Refused)
+    → ((f : Addr) → r ≡ FunctionRead.At f → P (go f)) → ((x : Refusal) → r ≡ FunctionRead.Refused x → P (Searched.Refused x)) → P (onFunction r go Searched.Refused)
 on-each P (FunctionRead.At f) go h g = h f refl
-on-each P (FunctionRead.Refused x) go h g = g x
+on-each P (FunctionRead.Refused x) go h g = g x refl
 
 side-each : (P : Searched → Type 0) (t : Bool) (low : ℕ) (f : Addr) (m : ℕ) (g : Addr) (high : ℕ) (go : ℕ → Addr → ℕ → Searched)
     → (t ≡ true → P (go m g high)) → (t ≡ false → P (go low f m)) → P (side t low f m g high go)
@@ -45,26 +48,34 @@ module _ (xs : List ℕ) (a counter : Addr) where
   abbrev Begun : ℕ → Addr → Type 0
   Begun e f = (functionAt xs a e ≡ FunctionRead.At f) × (f .0 ≤ counter .0)
 
-  -- an entry that is found lies in low .. high, and begins, and at most so many words were read
+  -- an entry that is found lies in low .. high, and begins, and at most so many words were read; a refusal has its reason
   abbrev Within : ℕ → ℕ → ℕ → Searched → Type 0
   Within low high most (Searched.Found h) = (low ≤ h .entry) × (h .entry < high) × (h .probes ≤ most) × Begun (h .entry) (h .function)
-  Within low high most (Searched.Refused r) = Unit
+  Within low high most (Searched.Refused r) = NoHit (length xs) a r
 
   widen : (low high low' high' most most' : ℕ) (r : Searched) → low ≤ low' → high' ≤ high → most' ≤ most → Within low' high' most' r → Within low high most r
   widen low high low' high' most most' (Searched.Found h) p q m w = (omega arith, omega arith, omega arith, w .3)
-  widen low high low' high' most most' (Searched.Refused r) p q m w = tt
+  widen low high low' high' most most' (Searched.Refused r) p q m w = w
+
+  -- a function word that is there is refused with 3
+  refused-why : IndexSection (length xs) a → (k : ℕ) → k < entries xs → (x : Refusal) → functionAt xs a k ≡ FunctionRead.Refused x → NoHit (length xs) a x
+  refused-why s k h x e = go x (rw e at (function-gives xs a k s))
+    where
+      go : (x : Refusal) → FunctionGives xs a k (FunctionRead.Refused x) → NoHit (length xs) a x
+      go x (FunctionGives.corrupt _) = NoHit.corrupt
+      go x (FunctionGives.truncated g) = absurd (omega arith)
 
   -- so many turns as the width has bits: m words more are read at most
-  within-from : (k m low : ℕ) (f : Addr) (high probes : ℕ) → low < high → high ≤ low + 2 ^ m → high ≤ low + k + 1 → Begun low f
+  within-from : IndexSection (length xs) a → (k m low : ℕ) (f : Addr) (high probes : ℕ) → low < high → high ≤ entries xs → high ≤ low + 2 ^ m → high ≤ low + k + 1 → Begun low f
       → Within low high (probes + m) (halveFrom k xs a counter low f high probes)
   unfolding halveFrom
-  within-from zero m low f high probes h p q b = (omega arith, omega arith, omega arith, b)
-  within-from (suc k) zero low f high probes h p q b =
+  within-from s zero m low f high probes h i p q b = (omega arith, omega arith, omega arith, b)
+  within-from s (suc k) zero low f high probes h i p q b =
       let n : high - low ≤ 1 = omega arith in
       pick-each (Within low high (probes + 0)) (ltb 1 (high - low)) _ (Searched.Found (hit low f probes))
       (λ t. absurd (omega (arith, ltb-true 1 (high - low) t)))
       (λ t. (omega arith, omega arith, omega arith, b))
-  within-from (suc k) (suc m) low f high probes h p q b =
+  within-from s (suc k) (suc m) low f high probes h i p q b =
       let mid = (low + high) / 2 in
       let e : 2 ^ suc m ≡ 2 ^ m * 2 = pow-suc 2 m in
       pick-each (Within low high (probes + suc m)) (ltb 1 (high - low)) _ (Searched.Found (hit low f probes))
@@ -73,16 +84,16 @@ module _ (xs : List ℕ) (a counter : Addr) where
       on-each (Within low high (probes + suc m)) (functionAt xs a mid) _
       (λ g r. side-each (Within low high (probes + suc m)) (leb (g .0) (counter .0)) low f mid g high _
       (λ u. widen low high mid high (probes + suc m) (probes + 1 + m) (halveFrom k xs a counter mid g high (probes + 1)) (omega arith) (omega arith) (omega arith)
-      (within-from k m mid g high (probes + 1) (omega arith) (omega arith) (omega arith) (r, leb-true (g .0) (counter .0) u)))
+      (within-from s k m mid g high (probes + 1) (omega arith) (omega arith) (omega arith) (omega arith) (r, leb-true (g .0) (counter .0) u)))
       (λ u. widen low high low mid (probes + suc m) (probes + 1 + m) (halveFrom k xs a counter low f mid (probes + 1)) (omega arith) (omega arith) (omega arith)
-      (within-from k m low f mid (probes + 1) (omega arith) (omega arith) (omega arith) b)))
-      (λ x. tt))
+      (within-from s k m low f mid (probes + 1) (omega arith) (omega arith) (omega arith) (omega arith) b)))
+      (λ x r. refused-why s mid (omega arith) x r))
       (λ t. (omega arith, omega arith, omega arith, b))
 
   -- an index has at most 2 ^ 13 entries
-  within-halve : (high : ℕ) (f : Addr) → 0 < high → high ≤ 2 ^ 13 → Begun 0 f → Within 0 high 14 (halve xs a counter 0 f high 1)
+  within-halve : IndexSection (length xs) a → (high : ℕ) (f : Addr) → 0 < high → high ≤ entries xs → high ≤ 2 ^ 13 → Begun 0 f → Within 0 high 14 (halve xs a counter 0 f high 1)
   unfolding halve
-  within-halve high f h g b = within-from (high - 0) 13 0 f high 1 h (omega arith) (omega arith) b
+  within-halve s high f h i g b = within-from s (high - 0) 13 0 f high 1 h i (omega arith) (omega arith) b
 
   within : Within 0 (entries xs) 14 (searchOf xs a counter)
   unfolding searchOf
@@ -91,20 +102,25 @@ module _ (xs : List ℕ) (a counter : Addr) where
       go : (x : Check) → indexRule (length xs) a ≡ x
           → Within 0 (entries xs) 14 (onCheck x (pick (eqb (entries xs) 0) (Searched.Refused Refusal.NoEntry) (onFunction (functionAt xs a 0) (λ f. pick (ltb (counter .0) (f .0)) (Searched.Refused Refusal.NoEntry) (halve xs a counter 0 f (entries xs) 1)) Searched.Refused)) Searched.Refused)
       go Check.Fine e =
-          let s = index-exact (length xs) a .0 e .section .short in
-          pick-each (Within 0 (entries xs) 14) (eqb (entries xs) 0) _ _ (λ t. tt)
+          let s = index-exact (length xs) a .0 e in
+          let m = s .section .short in
+          pick-each (Within 0 (entries xs) 14) (eqb (entries xs) 0) _ _ (λ t. NoHit.no-entry)
           (λ t. let n = eqb-false (entries xs) 0 t in
           on-each (Within 0 (entries xs) 14) (functionAt xs a 0) _
-          (λ f r. pick-each (Within 0 (entries xs) 14) (ltb (counter .0) (f .0)) _ _ (λ u. tt)
-          (λ u. within-halve (entries xs) f (omega arith) (omega arith) (r, ltb-false (counter .0) (f .0) u)))
-          (λ x. tt))
-      go (Check.Fault r) e = tt
+          (λ f r. pick-each (Within 0 (entries xs) 14) (ltb (counter .0) (f .0)) _ _ (λ u. NoHit.no-entry)
+          (λ u. within-halve s (entries xs) f (omega arith) (omega arith) (omega arith) (r, ltb-false (counter .0) (f .0) u)))
+          (λ x r. refused-why s 0 (omega arith) x r))
+      go (Check.Fault r) e = rw (index-fault (length xs) a r e) (NoHit.section (fault-not (indexRule (length xs) a) r (index-exact (length xs) a) e))
 
   -- any entry that is found
   pub found-begins : (h : Hit) → searchOf xs a counter ≡ Searched.Found h → Begins xs a counter h
   found-begins h e =
       let w : Within 0 (entries xs) 14 (Searched.Found h) = rw e at within in
       record { inside = w .1; read = w .3 .0; below = w .3 .1; few = w .2 }
+
+  -- why a search is refused
+  pub search-why : (r : Refusal) → searchOf xs a counter ≡ Searched.Refused r → NoHit (length xs) a r
+  search-why r e = rw e at within
 
 -- an entry that is found leads on by the function that was read on the way
 pub found-led : (i : Image) (counter : Addr) (h : Hit) → searchOf (i .index) (i .indexAt) counter ≡ Searched.Found h → ledBy i (h .entry) (h .function) ≡ entryAt i (h .entry)

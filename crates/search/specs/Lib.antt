@@ -1,3 +1,4 @@
 pub mod Search
 pub mod Rising
+pub mod Reasons
 pub mod Answers

@@ -1,5 +1,5 @@
 -- Exactness, put together as the tests are: what a test passes is what it says. Assumes nothing.
-use mathlib.Core.Path.{_≡_, refl}
+use mathlib.Core.Path.{_≡_, refl, sym, _∙_}
 use mathlib.Core.Bool.{Bool, true, false}
 use mathlib.Core.Logic.{_↔_}
 use Prim.Native.Nat.{ℕ, _≤_, _<_}
@@ -14,6 +14,10 @@ use Rattle.section.specs.declared.Check.the-variants.{Fine, Fault}
 -- a fault is no pass
 pub no-fault : {X : Type 0} (r : Refusal) → Fault r ≡ Fine → X
 no-fault r e = let z : _≡_ {A = ℕ} 0 1 = cc in absurd (omega arith)
+
+-- what does not pass is not what a test describes
+pub fault-not : {P : Type 0} (x : Check) (r : Refusal) → (x ≡ Fine) ↔ P → x ≡ Fault r → P → ⊥
+fault-not x r e f p = no-fault r (sym f ∙ e .1 p)
 
 pub and-fine : (a b : Check) → andThen a b ≡ Fine → (a ≡ Fine) × (b ≡ Fine)
 and-fine Fine b e = (refl, e)

@@ -4,3 +4,4 @@ pub mod Pops
 pub mod Runs
 pub mod Clean
 pub mod Steps
+pub mod Reasons
