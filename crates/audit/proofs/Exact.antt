@@ -76,7 +76,8 @@ module _ (i : Image) where
       from x = rw (function-sound (i .index) (i .indexAt) k (s .index) l (x .sound)) (exact (startOf i k) .1 (above-floor k (startOf i k .0) (x .above), x .leads))
 
 -- ---- every entry in order
-no-pass : {X : Type 0} (r : Refusal) (k : ℕ) → Verdict.Fault r k ≡ Verdict.Passed → X
+-- a fault is no pass
+pub no-pass : {X : Type 0} (r : Refusal) (k : ℕ) → Verdict.Fault r k ≡ Verdict.Passed → X
 no-pass r k e = let z : _≡_ {A = ℕ} 0 1 = cc in absurd (omega arith)
 
 passed : (x : Check) (y : Verdict) (k : ℕ) → onCheck x y (λ r. Verdict.Fault r k) ≡ Verdict.Passed → (x ≡ Check.Fine) × (y ≡ Verdict.Passed)

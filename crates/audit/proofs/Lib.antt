@@ -3,3 +3,4 @@ pub mod Turns
 pub mod Exact
 pub mod Promise
 pub mod Reasons
+pub mod Witness

@@ -1,7 +1,6 @@
 -- An image that the audit passes keeps the promise: at every counter, and from every register set and stack. Assumes nothing.
 use Prim.Native.Nat.{ℕ, _+_, _<_}
-use mathlib.Core.Path.{_≡_, refl, sym, _∙_}
-use mathlib.Core.Logic.{_↔_}
+use mathlib.Core.Path.{_≡_, refl, sym}
 use mathlib.Core.List.{List}
 use native.Mathlib.Numerals.{add-one}
 use lib.ListN.{length}
@@ -128,7 +127,3 @@ demand-three i e =
       steps = λ st base l r. steps i s st base r l;
       step-numbers = λ st base l r. step-number (stepOf i st base r .arrival) (stepOf i st base r .count) (steps i s st base r l);
     }
-
--- an audit's answer says all three
-pub told : (i : Image) (r : Verdict) → r ≡ auditOf i → (r ≡ auditOf i) × (((r ≡ Verdict.Passed) ↔ Sound i) × (r ≡ Verdict.Passed → Promise i))
-told i r e = (e, (rw e (audit-exact i), λ p. demand-three i (sym e ∙ p)))

@@ -18,7 +18,8 @@ use Rattle.image.specs.Image.{Image, countOf, sectionsOf, ledBy}
 use Rattle.entry.specs.Parts.{heldWords, languageIn}
 use Rattle.image.specs.declared.Found.{Found}
 use Rattle.image.proofs.Laws.{entry-is-led}
-use Rattle.audit.specs.Audit.{wordsCheck, foundCheck, floorOf, entryCheck, ledCheck, firstFault, auditOf}
+use Rattle.audit.specs.Audit.{wordsCheck, foundCheck, floorOf, entryCheck, ledCheck, firstFault, verdictOf, auditOf}
+use Rattle.audit.specs.declared.FirstFault.{FirstFault}
 use Rattle.audit.specs.declared.Verdict.{Verdict}
 
 -- ---- what an entry leads to: x is the audit of its words, y of its language data
@@ -98,6 +99,7 @@ module _ (i : Image) where
   unfolding auditOf
   audit-sections r e = rw e
 
-  pub audit-entries : sectionsOf i ≡ Check.Fine → auditOf i ≡ firstFault (entryCheck i) (countOf i) 0
+  -- by the first fault of the entries that was reported
+  pub audit-entries : sectionsOf i ≡ Check.Fine → (x : FirstFault) → verdictOf x ≡ firstFault (entryCheck i) (countOf i) 0 → {y : FirstFault} → x ≡ y → auditOf i ≡ verdictOf y
   unfolding auditOf
-  audit-entries e = rw e
+  audit-entries e x f g = rw e (sym f ∙ ap verdictOf g)

@@ -13,6 +13,7 @@ use Rattle.entry.specs.declared.Span.{Span}
 use Rattle.lsda.specs.Sites.{auditSitesOf}
 use Rattle.image.specs.Image.{Image, countOf, sectionsOf, entryAt, ledBy}
 use Rattle.image.specs.declared.Found.{Found}
+use Rattle.audit.specs.declared.FirstFault.{FirstFault}
 use Rattle.audit.specs.declared.Verdict.{Verdict}
 
 -- the instructions of a span, from whichever section holds them
@@ -47,6 +48,12 @@ firstFault f (suc m) k = onCheck (f k) (firstFault f m (k + 1)) (λ r. Verdict.F
 unfoldable pub auditOf : Image → Verdict
 auditOf i = onCheck (sectionsOf i) (firstFault (entryCheck i) (countOf i) 0) (λ r. Verdict.Fault r 0)
 
--- ---- the test of an entry whose function f is known, with its floor
+-- ---- what code reports
+-- the first fault of the entries, as a verdict
+abbrev pub verdictOf : FirstFault → Verdict
+verdictOf FirstFault.None = Verdict.Passed
+verdictOf (FirstFault.At r k) = Verdict.Fault r k
+
+-- the test of an entry whose function f is known, with its floor
 unfoldable pub ledCheck : Image → ℕ → Addr → ℕ → Check
 ledCheck i k f floor = andThen (need (leb floor (f .0)) Refusal.Unsorted) (foundCheck (i .index) (i .table) (ledBy i k f))

@@ -5,7 +5,7 @@ ghost use Prim.Native.Nat.{_≤_, _<_};
 ghost use lib.ListN.{length};
 ghost use Rattle.section.specs.Rule.{indexMost};
 ghost use Rattle.image.specs.Image.{image, countOf};
-ghost use Rattle.audit.specs.Audit.{foundCheck, ledCheck, entryCheck, firstFault, auditOf};
+ghost use Rattle.audit.specs.Audit.{foundCheck, ledCheck, entryCheck, firstFault, verdictOf, auditOf};
 ghost use Rattle.audit.specs.Promise.{Promise};
 ghost use Rattle.audit.specs.Sound.{Sound};
 use entry::FunctionRead;
@@ -18,6 +18,12 @@ use section::Refusal;
 pub enum Verdict {
     Passed,
     Fault(Refusal, u32),
+}
+
+// The first fault of the entries, and whose it is.
+enum FirstFault {
+    None,
+    At(Refusal, u32),
 }
 
 // What an entry leads to: its instructions, then a generic one's language data.
@@ -69,9 +75,9 @@ fn entries<'a>(
     index_address: Addr,
     table: &'a [u8],
     table_address: Addr,
-) -> Verdict
+) -> FirstFault
     requires { ⌜ length (now index) ≤ indexMost ⌝ }
-    ensures { λ r. ⌜ r ≡ firstFault (entryCheck (image (now (index .entry)) «index_address» (now (table .entry)) «table_address»)) (countOf (image (now (index .entry)) «index_address» (now (table .entry)) «table_address»)) 0 ⌝ }
+    ensures { λ r. ⌜ verdictOf r ≡ firstFault (entryCheck (image (now (index .entry)) «index_address» (now (table .entry)) «table_address»)) (countOf (image (now (index .entry)) «index_address» (now (table .entry)) «table_address»)) 0 ⌝ }
 {
     let count = (index.len() / 8) as u32;
     let mut number: u32 = 0;
@@ -79,12 +85,12 @@ fn entries<'a>(
     while number < count {
         match entry::function_at(index, index_address, number) {
             FunctionRead::Refused(r) => {
-                return Verdict::Fault(r, number);
+                return FirstFault::At(r, number);
             }
             FunctionRead::At(f) => {
                 match check_entry(index, index_address, table, table_address, number, f, floor) {
                     Check::Fault(r) => {
-                        return Verdict::Fault(r, number);
+                        return FirstFault::At(r, number);
                     }
                     Check::Fine => {
                         floor = f.0 as u64 + 1;
@@ -94,7 +100,7 @@ fn entries<'a>(
             }
         }
     }
-    Verdict::Passed
+    FirstFault::None
 }
 
 // Sections, then every entry in order: the first fault. It passes exactly the sound images, and these keep the promise.
@@ -104,12 +110,15 @@ pub fn audit<'a>(
     table: &'a [u8],
     table_address: Addr,
 ) -> Verdict
-    ensures answer { λ r. ⌜ r ≡ auditOf (image (now (index .entry)) «index_address» (now (table .entry)) «table_address») ⌝ }
-    ensures passes_exactly { λ r. ⌜ (r ≡ Verdict.Passed) ↔ Sound (image (now (index .entry)) «index_address» (now (table .entry)) «table_address») ⌝ }
     ensures demand_three { λ r. ⌜ (r ≡ Verdict.Passed → Promise (image (now (index .entry)) «index_address» (now (table .entry)) «table_address»)) ⌝ }
+    ensures passes_exactly { λ r. ⌜ (r ≡ Verdict.Passed) ↔ Sound (image (now (index .entry)) «index_address» (now (table .entry)) «table_address») ⌝ }
+    ensures answer { λ r. ⌜ r ≡ auditOf (image (now (index .entry)) «index_address» (now (table .entry)) «table_address») ⌝ }
 {
     match image::sections(index, index_address, table, table_address) {
         Check::Fault(r) => Verdict::Fault(r, 0),
-        Check::Fine => entries(index, index_address, table, table_address),
+        Check::Fine => match entries(index, index_address, table, table_address) {
+            FirstFault::None => Verdict::Passed,
+            FirstFault::At(r, entry) => Verdict::Fault(r, entry),
+        },
     }
 }
