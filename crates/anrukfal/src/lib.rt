@@ -1,5 +1,6 @@
 // The C library: each call returns the refusal's number, 0 for none, and fills its row, all zero at a refusal.
 ghost use mathlib.Core.Path.{_≡_};
+ghost use mathlib.Core.Logic.{_↔_};
 ghost use Rattle.section.specs.Answer.{Told};
 ghost use Rattle.section.specs.Place.{addr, off};
 ghost use Rattle.section.specs.Prel31.{prel31Of};
@@ -21,6 +22,8 @@ ghost use Rattle.step.specs.Execute.{registers};
 ghost use Rattle.step.specs.Step.{stepOf};
 ghost use Rattle.audit.specs.Answers.{verdictAnswer};
 ghost use Rattle.audit.specs.Audit.{auditOf};
+ghost use Rattle.audit.specs.Promise.{Promise};
+ghost use Rattle.audit.specs.Sound.{Sound};
 ghost use Rattle.anrukfal.specs.Step.{StepTold};
 ghost use Rattle.bundle.specs.Answers.{bundleAnswer};
 ghost use Rattle.bundle.specs.Bundle.{bundleOf};
@@ -251,7 +254,7 @@ pub extern "C" fn anrukfal_step<'a>(
     }
 }
 
-// The entry at fault; 0 for a section fault and for an image that passes.
+// The entry at fault; 0 for a section fault and for an image that passes. 0 is returned exactly for sound images, and these keep the promise.
 #[no_mangle]
 pub extern "C" fn anrukfal_audit<'a>(
     index: &'a [u8],
@@ -260,7 +263,9 @@ pub extern "C" fn anrukfal_audit<'a>(
     table_address: u32,
     row: &mut [u32; 1],
 ) -> u32
-    ensures { λ r. ⌜ Told (verdictAnswer (auditOf (image (now (index .entry)) (addr «index_address») (now (table .entry)) (addr «table_address»)))) r (now (row .exit)) ⌝ }
+    ensures demand_three { λ r. ⌜ (r ≡ 0 → Promise (image (now (index .entry)) (addr «index_address») (now (table .entry)) (addr «table_address»))) ⌝ }
+    ensures passes_exactly { λ r. ⌜ (r ≡ 0) ↔ Sound (image (now (index .entry)) (addr «index_address») (now (table .entry)) (addr «table_address»)) ⌝ }
+    ensures answer { λ r. ⌜ Told (verdictAnswer (auditOf (image (now (index .entry)) (addr «index_address») (now (table .entry)) (addr «table_address»)))) r (now (row .exit)) ⌝ }
 {
     match audit::audit(index, Addr(index_address), table, Addr(table_address)) {
         Verdict::Passed => {

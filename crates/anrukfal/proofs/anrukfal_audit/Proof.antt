@@ -1,8 +1,13 @@
--- Each arm writes the row that the answer's definition gives. Assumes nothing.
+-- Each arm writes the row that the answer's definition gives; what the number says of the image follows. Assumes nothing.
+use Rattle.anrukfal.proofs.Laws.{audit-told}
 use mathlib.Core.Path.{refl, sym, _∙_}
 use borrow.Author.Needs.{needs}
 use Rattle.anrukfal.proofs.anrukfal_audit.Statement.{statement}
 use Rattle.anrukfal.proofs.anrukfal_audit.Tie as tie
+use Rattle.anrukfal.proofs.anrukfal_audit.Reads as reads
+use Rattle.anrukfal.proofs.anrukfal_audit.Lts as lts
+use Rattle.audit.proofs.audit.Reads as audit-reads
+use Rattle.section.proofs.Refusal.number.Reads as number-reads
 
 audit-requires : tie.Need-audit-requires
 audit-requires c κs = search needs
@@ -17,10 +22,10 @@ number-requires : tie.Need-number-requires
 number-requires c κs = search needs
 
 returns : tie.Need-returns
-returns c = rw (sym (c .before .before .before .audit .ensures .0) ∙ c .before .enum-told .given .1) (record { number = refl; row = refl })
+returns c = audit-told _ _ (sym (c .before .before .before .audit .ensures .1 .1) ∙ c .before .enum-told .given .1) _ _ (record { number = refl; row = refl })
 
 returns-2 : tie.Need-returns-2
-returns-2 c = rw (sym (c .before .before .before .before .before .audit .ensures .0) ∙ c .before .before .before .r .given .1) (record { number = c .number .ensures; row = refl })
+returns-2 c = audit-told _ _ (sym (c .before .before .before .before .before .audit .ensures .1 .1) ∙ c .before .before .before .r .given .1) _ _ (record { number = c .number .ensures; row = refl })
 
 pub anrukfal-audit-spec : {M : Type 1} → statement M
 anrukfal-audit-spec =

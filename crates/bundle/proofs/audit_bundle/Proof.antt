@@ -46,7 +46,7 @@ returns c = sym (audit-refused _ _ (sym (c .before .before .before .read-bundle 
 returns-2 : tie.Need-returns-2
 returns-2 c = let e = sym (c .before .before .before .before .before .before .before .before .before .before .before .before .read-bundle .ensures) ∙ c .before .before .before .before .before .before .before .before .before .before .b .given .1 in
     let p = bundle-placed _ _ e in
-    c .reported .ensures ∙ sym (audit-read _ _ e _ _ (part-bytes _ _ _ _ (omega (arith, p .index, p .whole)) (c .before .before .before .before .before .before .part .ensures)) (part-bytes _ _ _ _ (omega (arith, p .table, p .whole)) (c .before .before .before .part2 .ensures)) _ (c .before .before .audit .ensures .0))
+    c .reported .ensures ∙ sym (audit-read _ _ e _ _ (part-bytes _ _ _ _ (omega (arith, p .index, p .whole)) (c .before .before .before .before .before .before .part .ensures)) (part-bytes _ _ _ _ (omega (arith, p .table, p .whole)) (c .before .before .before .part2 .ensures)) _ (c .before .before .audit .ensures .1 .1))
 
 pub audit-bundle-spec : {M : Type 1} → statement M
 audit-bundle-spec =
