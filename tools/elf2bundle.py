@@ -1,96 +1,207 @@
 #!/usr/bin/env python3
 """elf2bundle.py ELF BUNDLE: the unwind tables of an ELF file for 32-bit little-endian Arm, as a bundle.
 
-The index is .ARM.exidx, the table .ARM.extab (empty at address 0 where there is none), filled with zero bytes to whole words. `--functions` prints the
-functions of the index instead, one to a line: entry, address, and the symbol there."""
+The index is what the program header PT_ARM_EXIDX bounds; without one, the section .ARM.exidx. The table is .ARM.extab where every entry leads into it. Where a linker script folded it into another
+section, or only segments are left, the table is that one's bytes from the lowest place that an entry names to its end, at most 65,536. A table that is no whole number of words is filled with zero
+bytes; how many is said, for `audit_image K`, as they are no part of the table. `--functions` prints the functions of the index instead, one to a line: entry, address, and the symbol there."""
+import collections
 import struct
 import sys
+
+PT_LOAD, PT_ARM_EXIDX, SHT_ARM_EXIDX = 1, 0x70000001, 0x70000001
+SHT_SYMTAB, SHT_NOBITS, SHF_ALLOC, SHF_TLS = 2, 8, 2, 0x400
+LONGEST, TOP = 65536, 1 << 32
+
+# So many of a span's bytes are in the file.
+Span = collections.namedtuple("Span", "name kind flags address size offset loaded link")
+Image = collections.namedtuple("Image", "index_at index table_at table note")
 
 
 class NotAnImage(Exception):
     pass
 
 
+class NotWhole(NotAnImage):
+    """The index is no whole number of entries: refusal 1, and no bundle can say it."""
+
+
+UNREADABLE = NotAnImage, ValueError, IndexError, struct.error
+
+
+def asked_file(data):
+    """Says in words what is no linked ELF file for 32-bit little-endian Arm."""
+    for asked, why in (
+        (data[:4] == b"\x7fELF", "no ELF file"),
+        (data[4:5] == b"\1", "an ELF file that is not for 32 bits"),
+        (data[5:6] == b"\1", "a big-endian ELF file: only little-endian tables are read"),
+        (len(data) >= 52, "the file ends inside its header"),
+        (data[18:20] == b"\x28\0", "an ELF file that is not for Arm"),
+        (data[16:18] in (b"\2\0", b"\3\0"), "a relocatable object or a core file: link it first"),
+        (data[32:36] == bytes(4) or data[48:50] != b"\0\0", "too many sections: their number is not in the header"),
+    ):
+        if not asked:
+            raise NotAnImage(why)
+
+
 class Elf:
     def __init__(self, data):
-        if data[:4] != b"\x7fELF":
-            raise NotAnImage("no ELF file")
-        if data[4] != 1 or data[5] != 1 or len(data) < 52 or struct.unpack_from("<H", data, 18)[0] != 40:
-            raise NotAnImage("no ELF file for 32-bit little-endian Arm")
+        asked_file(data)
         self.data = data
-        at, size, count, names = struct.unpack_from("<I", data, 32)[0], *struct.unpack_from("<HHH", data, 46)
-        heads = [struct.unpack_from("<IIIIIIIIII", data, at + k * size) for k in range(count)]
+        segments_at, sections_at = struct.unpack_from("<II", data, 28)
+        segment_size, segments, section_size, sections, names = struct.unpack_from("<HHHHH", data, 42)
+        heads = [struct.unpack_from("<10I", data, sections_at + k * section_size) for k in range(sections if sections_at else 0)]
         self.sections = []
-        for h in heads:
-            name = self.text(heads[names][4] + h[0]) if names < count else ""
-            self.sections.append(dict(name=name, type=h[1], address=h[3], offset=h[4], size=h[5], link=h[6]))
+        for name, kind, flags, address, offset, size, link, *_ in heads:
+            text = self.text(heads[names][4] + name) if names < sections else ""
+            self.sections.append(Span(text, kind, flags, address, size, offset, 0 if kind == SHT_NOBITS else size, link))
+        self.segments = []
+        for k in range(segments):
+            kind, offset, address, _, loaded, size, *_ = struct.unpack_from("<8I", data, segments_at + k * segment_size)
+            self.segments.append(Span(f"segment {k}", kind, SHF_ALLOC, address, size, offset, loaded, 0))
 
     def text(self, at):
         return self.data[at:self.data.index(b"\0", at)].decode("latin-1")
 
     def bytes_of(self, s):
-        return self.data[s["offset"]:s["offset"] + s["size"]]
+        if s.size and not s.loaded:
+            raise NotAnImage(f"the file has no bytes of {s.name}")
+        if s.offset + s.loaded > len(self.data):
+            raise NotAnImage(f"the file ends inside {s.name}")
+        return self.data[s.offset:s.offset + s.loaded]
 
-    def find(self, name, kind=None):
-        """The section of that name, or of that type; several of one kind are refused, as an object file has them."""
-        found = [s for s in self.sections if s["name"] == name or (kind and s["type"] == kind)]
+    def one(self, what, found):
+        """Several are refused: they are parts of one section that is not linked yet."""
         if len(found) > 1:
-            raise NotAnImage(f"{len(found)} sections {name}: link the file first")
+            raise NotAnImage(f"{len(found)} {what}: link the file first")
         return found[0] if found else None
 
+    def index(self):
+        bounds = self.one("segments PT_ARM_EXIDX", [s for s in self.segments if s.kind == PT_ARM_EXIDX])
+        sections = [s for s in self.sections if s.kind == SHT_ARM_EXIDX or s.name == ".ARM.exidx"]
+        full = [s for s in sections if s.size]
+        if bounds:
+            full = [bounds] + [s for s in full if s.address >= bounds.address + bounds.size or s.address + s.size <= bounds.address]
+        index = self.one("index sections", full or sections[:1])
+        if not index:
+            raise NotAnImage("no index: neither a program header PT_ARM_EXIDX nor a section .ARM.exidx")
+        if index.loaded != index.size:
+            raise NotAnImage("the file has not all bytes of the index")
+        return index
+
+    def holder(self, address):
+        """The section that holds an address, else the loaded segment, else None."""
+        placed = [s for s in self.sections if s.flags & SHF_ALLOC and not (s.flags & SHF_TLS and s.kind == SHT_NOBITS)]
+        for spans in (placed, [s for s in self.segments if s.kind == PT_LOAD]):
+            found = [s for s in spans if address in span_of(s)]
+            if len(found) > 1:
+                raise NotAnImage(f"{found[0].name} and {found[1].name} both hold {address:#010x}")
+            if found and address >= found[0].address + found[0].loaded:
+                raise NotAnImage(f"an entry leads to {address:#010x}: the file has no bytes there, in {found[0].name}")
+            if found:
+                return found[0]
+        return None
+
     def symbols(self):
-        """Address to name, functions first."""
+        """Address to name, functions only."""
         names = {}
         for s in self.sections:
-            if s["type"] == 2:
-                strings = self.sections[s["link"]]["offset"]
-                body = self.bytes_of(s)
-                for k in range(0, len(body) - 15, 16):
-                    name, value, _, info, _, _ = struct.unpack_from("<IIIBBH", body, k)
+            if s.kind == SHT_SYMTAB:
+                strings, body = self.sections[s.link].offset, self.bytes_of(s)
+                for name, value, _, info, _, _ in struct.iter_unpack("<IIIBBH", body[:len(body) // 16 * 16]):
                     if info & 15 == 2 and value & ~1 not in names:
                         names[value & ~1] = self.text(strings + name)
         return names
 
 
-SHT_ARM_EXIDX = 0x70000001
+def span_of(s):
+    return range(s.address, s.address + s.size)
+
+
+def prel31(word, place):
+    distance = word & 0x7FFFFFFF
+    return (place + distance - (distance >> 30 << 31)) % TOP
+
+
+def led(index_at, index):
+    """Entry and table address of each entry that leads to the table."""
+    for k in range(len(index) // 8):
+        content = struct.unpack_from("<I", index, 8 * k + 4)[0]
+        if content != 1 and not content >> 31:
+            yield k, prel31(content, index_at + 8 * k + 4)
+
+
+def table_of(elf, places):
+    """Address and bytes of the table, and what has to be said about them. An entry that leads nowhere is the audit's business: 5."""
+    own = elf.one("sections .ARM.extab", [s for s in elf.sections if s.name == ".ARM.extab" and s.size])
+    holders = {}
+    for k, address in places:
+        holders.setdefault(own if own and address in span_of(own) else elf.holder(address), k)
+    lost = holders.pop(None, None)
+    if len(holders) > 1:
+        raise NotAnImage("the entries lead into several sections: " + ", ".join(f"entry {k} into {s.name}" for s, k in holders.items()))
+    held = next(iter(holders), own)
+    if held and held == own:
+        return own.address, elf.bytes_of(own), ""
+    if held:
+        return folded(elf, held, min(a for _, a in places if a in span_of(held)))
+    if lost is not None:
+        raise NotAnImage(f"entry {lost} leads to {dict(places)[lost]:#010x}, which no section and no loaded segment holds")
+    return 0, b"", ""
+
+
+def folded(elf, held, lowest):
+    """The table begins at a multiple of 4, so that a place that is none stays 5, and never before what holds it."""
+    start = max(lowest, held.address + 3) & ~3
+    table = elf.bytes_of(held)[start - held.address:]
+    note = f"The table is in {held.name}, from {start:#010x}, the lowest place that an entry leads to, to the end"
+    if len(table) > LONGEST:
+        note += f" of the {LONGEST} bytes that a table may have: what reads past {start + LONGEST:#010x} is refused"
+    return start, table[:LONGEST], note + "."
 
 
 def image(elf):
-    index = elf.find(".ARM.exidx", SHT_ARM_EXIDX)
-    if not index:
-        raise NotAnImage("no .ARM.exidx")
-    table = elf.find(".ARM.extab")
-    body = elf.bytes_of(table) if table else b""
-    body += bytes(-len(body) % 4)
-    return index["address"], elf.bytes_of(index), table["address"] if table else 0, body
+    span = elf.index()
+    index = elf.bytes_of(span)
+    if len(index) % 8:
+        raise NotWhole(f"the index has {len(index)} bytes, which is no whole number of entries of 8")
+    return Image(span.address, index, *table_of(elf, list(led(span.address, index))))
 
 
-def bundle(elf):
-    index_at, index, table_at, table = image(elf)
-    index += bytes(-len(index) % 8)
-    return struct.pack("<IIII", 2, index_at, table_at, len(index) // 8) + index + struct.pack("<I", len(table) // 4) + table
+def filled(image):
+    """How many zero bytes a bundle adds to the table."""
+    return -len(image.table) % 4
+
+
+def bundle(image):
+    table = image.table + bytes(filled(image))
+    if image.table_at + len(image.table) <= TOP < image.table_at + len(table):
+        raise NotAnImage("the table ends below 2^32 by less than its last word: no bundle can hold it")
+    return struct.pack("<IIII", 2, image.index_at, image.table_at, len(image.index) // 8) + image.index + struct.pack("<I", len(table) // 4) + table
 
 
 def functions(index_at, index, names):
     for k in range(len(index) // 8):
-        w = struct.unpack_from("<I", index, 8 * k)[0] & 0x7FFFFFFF
-        a = (index_at + 8 * k + w - (1 << 31 if w >> 30 else 0)) % (1 << 32)
+        a = prel31(struct.unpack_from("<I", index, 8 * k)[0], index_at + 8 * k)
         yield k, a, names.get(a & ~1, "")
 
 
 def main():
     args = [a for a in sys.argv[1:] if not a.startswith("--")]
-    data = open(args[0], "rb").read()
     try:
-        elf = Elf(data)
+        elf = Elf(open(args[0], "rb").read())
+        taken = image(elf)
         if "--functions" in sys.argv:
-            index_at, index, _, _ = image(elf)
-            for k, a, name in functions(index_at, index, elf.symbols()):
+            for k, a, name in functions(taken.index_at, taken.index, elf.symbols()):
                 print(f"{k} {a:08x} {name}")
-        else:
-            open(args[1], "wb").write(bundle(elf))
-    except (NotAnImage, struct.error, ValueError, IndexError) as why:
+            return
+        whole = bundle(taken)
+    except UNREADABLE as why:
         sys.exit(f"{args[0]}: {why}")
+    open(args[1], "wb").write(whole)
+    if taken.note:
+        print(taken.note, file=sys.stderr)
+    if filled(taken):
+        print(f"The last {filled(taken)} bytes only fill the table's last word: audit_image {filled(taken)} <{args[1]}", file=sys.stderr)
 
 
 if __name__ == "__main__":
