@@ -1,6 +1,6 @@
 #!/usr/bin/env python3
 """images.py: real images of the compilers at hand (GCC, clang, Rust; several targets, every level of optimisation), each audited, looked up at every counter and stepped from every
-second one with drawn registers, by the C library and by tests/paper.py.
+second one with drawn registers, by the C library and by tests/paper.py, on its bytes as they are; and audited by ./audit.
 
 What is not there, or does not build, is left out and said so; where nothing is, the test fails."""
 import ctypes
@@ -42,8 +42,8 @@ def commands():
 def built(name, steps):
     for step in steps:
         subprocess.run(step.format(name).split(), check=True, stdout=subprocess.DEVNULL, stderr=subprocess.DEVNULL, env=dict(os.environ, RUSTC_BOOTSTRAP="1"))
-    index_at, index, table_at, table = elf2bundle.image(elf2bundle.Elf(open(name, "rb").read()))
-    return index, index_at, table, table_at
+    image = elf2bundle.image(elf2bundle.Elf(open(name, "rb").read()))
+    return image.index, image.index_at, image.table, image.table_at
 
 
 class Library:
@@ -106,8 +106,14 @@ def compared(library, image, drawn):
     return count
 
 
+def audited(name, image):
+    """What ./audit says of the file."""
+    line = subprocess.run([os.path.join(HERE, "../audit"), name], stdout=subprocess.PIPE, text=True).stdout.split("\n")[0]
+    same(line, f"ok {len(image[0]) // 8}", f"./audit says {line}")
+
+
 def main():
-    drawn, answers, images, entries, missing = random.Random(7), 0, {}, 0, set()
+    drawn, answers, images, entries, partial, missing = random.Random(7), 0, {}, 0, 0, set()
     os.chdir(tempfile.mkdtemp())
     open("cstdint", "w").write(CSTDINT)
     library = loaded()
@@ -122,15 +128,17 @@ def main():
             continue
         try:
             answers += compared(library, image, drawn)
+            audited("image", image)
         except Differs as why:
             print(f"{compiler} {what}: {why}")
             print("images: failed")
             return 1
         images[compiler] = images.get(compiler, 0) + 1
         entries += len(image[0]) // 8
+        partial += len(image[2]) % 4 > 0
     for why in sorted(missing):
         print(f"left out: {why}")
-    print(f"images: {', '.join(f'{n} of {c}' for c, n in images.items())}; {entries} entries, all sound; {answers} answers agree")
+    print(f"images: {', '.join(f'{n} of {c}' for c, n in images.items())}; {entries} entries, all sound; {partial} tables are no whole words; {answers} answers agree")
     print("images: passed" if images else "images: failed")
     return 0 if images else 1
 
