@@ -3,6 +3,9 @@
  * Each call returns the refusal's number, 0 for none, and fills its row: all zero at a refusal. Memory that is lent is only read;
  * nothing but the row, and a step's registers, is written. Any bytes, addresses, counter and registers get one answer.
  *
+ * What is lent, the row and the registers must be valid for their lengths and aligned, and may not overlap. NULL with length 0 is an
+ * empty slice. A counter is taken as it stands, register 15 too: for a return address the caller takes off 1 or 2 first.
+ *
  * Refusals: 1 section, 2 no entry, 3 corrupt, 4 unsorted, 5 place, 6 truncated, 7 selector, 8 encoding, 9 value, 10 sum, 11 no site,
  * 12 refused, 13 reserved, 14 unsupported, 15 malformed, 16 registers, 17 stack, 18 bundle. */
 #ifndef ANRUKFAL_H

@@ -138,7 +138,7 @@ def main():
         partial += len(image[2]) % 4 > 0
     for why in sorted(missing):
         print(f"left out: {why}")
-    print(f"images: {', '.join(f'{n} of {c}' for c, n in images.items())}; {entries} entries, all sound; {partial} tables are no whole words; {answers} answers agree")
+    print(f"images: {', '.join(f'{n} of {c}' for c, n in images.items())}; {entries} entries, all sound; {partial} tables end inside a word; {answers} answers agree")
     print("images: passed" if images else "images: failed")
     return 0 if images else 1
 
