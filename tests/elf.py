@@ -16,20 +16,27 @@ from edges import INDEX_AT, TABLE_AT
 HERE = os.path.dirname(os.path.abspath(__file__))
 AUDIT, ELF2BUNDLE = os.path.join(HERE, "../audit"), os.path.join(HERE, "../tools/elf2bundle.py")
 NOBITS, EXIDX, ALLOC, LOAD = 8, 0x70000001, 2, 1
-Section = collections.namedtuple("Section", "name address body kind flags", defaults=(1, ALLOC))
+Section = collections.namedtuple("Section", "name address body kind flags link", defaults=(1, ALLOC, 0))
 Segment = collections.namedtuple("Segment", "kind address loaded size")
 
 
-def elf(sections, segments=(), headers=True, kind=2, machine=40, bits=1, order="<"):
-    """A file with these sections and program headers; a section's body is its bytes, or a size (NOBITS)."""
-    sections = [Section("", 0, b"", 0, 0), *sections, Section(".shstrtab", 0, b"", 3, 0)]
+def named(symbols, before):
+    """The sections of a symbol table behind so many others: name to address."""
+    strings = b"\0" + b"".join(name.encode() + b"\0" for name in symbols)
+    body = b"".join(struct.pack("<IIIBBH", strings.index(b"\0" + name.encode() + b"\0") + 1, at, 0, 16, 0, 1) for name, at in symbols.items())
+    return [Section(".strtab", 0, strings, 3, 0), Section(".symtab", 0, body, 2, 0, before + 1)]
+
+
+def elf(sections, segments=(), symbols=None, headers=True, kind=2, machine=40, bits=1, order="<"):
+    """A file with these sections, program headers and symbols; a section's body is its bytes, or a size (NOBITS)."""
+    sections = [Section("", 0, b"", 0, 0), *sections, *named(symbols or {}, len(sections)), Section(".shstrtab", 0, b"", 3, 0)]
     names = b"".join(s.name.encode() + b"\0" for s in sections)
     sections[-1] = sections[-1]._replace(body=names)
     heads, body, places, at = b"", b"", [], 52 + 32 * len(segments)
     for s in sections:
         held = b"" if s.kind == NOBITS else s.body
         places.append((s, at + len(body)))
-        heads += struct.pack(order + "10I", names.index(s.name.encode() + b"\0"), s.kind, s.flags, s.address, at + len(body), len(held) or (s.body or 0), 0, 0, 4, 0)
+        heads += struct.pack(order + "10I", names.index(s.name.encode() + b"\0"), s.kind, s.flags, s.address, at + len(body), len(held) or (s.body or 0), s.link, 0, 4, 0)
         body += held
     programs = b""
     for g in segments:
@@ -94,6 +101,14 @@ def indexes():
         yield f"an index of {n} bytes", elf([exidx(index[:n]), extab(table)]), verdict(index[:n], table), f"Refusal 1: the index has {n} bytes, which is no whole number of entries of 8."
     padded = Section(".ARM.exidx", INDEX_AT - 8, bytes(8) + index + bytes(4), EXIDX)
     yield "padding around the index", elf([padded, extab(table)], [bounds(index)]), sound, ""
+    for start, end, left in ((0, len(index), 12), (8, len(index), 20), (0, len(index) - 8, 20)):
+        symbols = {"__exidx_start": INDEX_AT + start, "__exidx_end": INDEX_AT + end}
+        line, said = (sound, f"{left} bytes of padding are left out") if end - start == len(index) else (None, "leave out a part of the index that is not padding")
+        yield f"padding around {symbols}", elf([padded, extab(table)], [bounds(padded.body, INDEX_AT - 8)], symbols), line, said
+    for symbols in ({"__exidx_start": INDEX_AT}, {"__exidx_start": 0, "__exidx_end": 8}, {"__exidx_start": INDEX_AT, "__exidx_end": INDEX_AT + len(index)}):
+        yield f"an index with {symbols}", elf([exidx(index), extab(table)], [], symbols), sound, ""
+    zeros = bytes(8) + edges.image([(0x20000000, 1)], b"", INDEX_AT + 8)[0]
+    yield "padding that nothing tells of", elf([exidx(zeros), extab(table)]), verdict(zeros, table), ""
     yield "an index by its type", elf([exidx(index)._replace(name=".unwind"), extab(table)]), sound, ""
     yield "an index by its name", elf([exidx(index)._replace(kind=1), extab(table)]), sound, ""
     yield "an empty index", elf([exidx(b""), extab(table)]), "ok 0", ""
@@ -166,7 +181,7 @@ def files():
     yield "a short header", elf(parts)[:51], None, "the file ends inside its header"
     whole = elf(parts)
     for n in (60, 100, len(whole) - 1):
-        yield f"{n} bytes of a file", whole[:n], None, "audit: "
+        yield f"{n} bytes of a file", whole[:n], None, "the file ends before the headers"
 
 
 def ran(data, path):

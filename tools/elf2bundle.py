@@ -1,20 +1,21 @@
 #!/usr/bin/env python3
 """elf2bundle.py ELF BUNDLE: the unwind tables of an ELF file for 32-bit little-endian Arm, as a bundle.
 
-The index is what the program header PT_ARM_EXIDX bounds; without one, the section .ARM.exidx. The table is .ARM.extab where every entry leads into it. Where a linker script folded it into another
-section, or only segments are left, the table is that one's bytes from the lowest place that an entry names to its end, at most 65,536. A table that is no whole number of words is filled with zero
-bytes; how many is said, for `audit_image K`, as they are no part of the table. `--functions` prints the functions of the index instead, one to a line: entry, address, and the symbol there."""
+The index is what the program header PT_ARM_EXIDX bounds; without one, the section .ARM.exidx; in either case without zero bytes that the symbols __exidx_start and __exidx_end leave out.
+The table is .ARM.extab where every entry leads into it. Where a linker script folded it into another section, or only segments are left, the table is that one's bytes from the lowest place that
+an entry names to its end, at most 65,536. A table that is no whole number of words is filled with zero bytes; how many is said, for `audit_image K`, as they are no part of the table.
+`--functions` prints the functions of the index instead, one to a line: entry, address, and the symbol there."""
 import collections
 import struct
 import sys
 
 PT_LOAD, PT_ARM_EXIDX, SHT_ARM_EXIDX = 1, 0x70000001, 0x70000001
-SHT_SYMTAB, SHT_NOBITS, SHF_ALLOC, SHF_TLS = 2, 8, 2, 0x400
+SHT_SYMTAB, SHT_NOBITS, SHF_ALLOC, SHF_TLS, STT_FUNC = 2, 8, 2, 0x400, 2
 LONGEST, TOP = 65536, 1 << 32
 
 # So many of a span's bytes are in the file.
 Span = collections.namedtuple("Span", "name kind flags address size offset loaded link")
-Image = collections.namedtuple("Image", "index_at index table_at table note")
+Image = collections.namedtuple("Image", "index_at index table_at table notes")
 
 
 class NotAnImage(Exception):
@@ -49,18 +50,26 @@ class Elf:
         self.data = data
         segments_at, sections_at = struct.unpack_from("<II", data, 28)
         segment_size, segments, section_size, sections, names = struct.unpack_from("<HHHHH", data, 42)
-        heads = [struct.unpack_from("<10I", data, sections_at + k * section_size) for k in range(sections if sections_at else 0)]
+        heads = [self.head("<10I", sections_at + k * section_size) for k in range(sections if sections_at else 0)]
         self.sections = []
         for name, kind, flags, address, offset, size, link, *_ in heads:
             text = self.text(heads[names][4] + name) if names < sections else ""
             self.sections.append(Span(text, kind, flags, address, size, offset, 0 if kind == SHT_NOBITS else size, link))
         self.segments = []
         for k in range(segments):
-            kind, offset, address, _, loaded, size, *_ = struct.unpack_from("<8I", data, segments_at + k * segment_size)
+            kind, offset, address, _, loaded, size, *_ = self.head("<8I", segments_at + k * segment_size)
             self.segments.append(Span(f"segment {k}", kind, SHF_ALLOC, address, size, offset, loaded, 0))
 
+    def head(self, form, at):
+        if at + struct.calcsize(form) > len(self.data):
+            raise NotAnImage("the file ends before the headers of its sections or segments")
+        return struct.unpack_from(form, self.data, at)
+
     def text(self, at):
-        return self.data[at:self.data.index(b"\0", at)].decode("latin-1")
+        end = self.data.find(b"\0", at)
+        if end < 0:
+            raise NotAnImage("the file ends inside a name")
+        return self.data[at:end].decode("latin-1")
 
     def bytes_of(self, s):
         if s.size and not s.loaded:
@@ -88,6 +97,20 @@ class Elf:
             raise NotAnImage("the file has not all bytes of the index")
         return index
 
+    def trimmed(self, index):
+        """The index without padding: linker scripts pad inside the section and name what is left, for the target to lend. Only zero bytes are left out."""
+        bounds = [{value for symbol, value, _ in self.symbols() if symbol == name} for name in ("__exidx_start", "__exidx_end")]
+        if [len(values) for values in bounds] != [1, 1]:
+            return index, ""
+        (start,), (end,) = bounds
+        if not index.address <= start <= end <= index.address + index.size or end - start == index.size:
+            return index, ""
+        body, first = self.bytes_of(index), start - index.address
+        if any(body[:first] + body[end - index.address:]):
+            raise NotAnImage("__exidx_start and __exidx_end leave out a part of the index that is not padding")
+        kept = index._replace(address=start, size=end - start, offset=index.offset + first, loaded=end - start)
+        return kept, f"The index stands from {start:#010x} to below {end:#010x}, as __exidx_start and __exidx_end say: {index.size - kept.size} bytes of padding are left out."
+
     def holder(self, address):
         """The section that holds an address, else the loaded segment, else None."""
         placed = [s for s in self.sections if s.flags & SHF_ALLOC and not (s.flags & SHF_TLS and s.kind == SHT_NOBITS)]
@@ -102,15 +125,21 @@ class Elf:
         return None
 
     def symbols(self):
-        """Address to name, functions only."""
-        names = {}
-        for s in self.sections:
-            if s.kind == SHT_SYMTAB:
+        """Name, value and type of each symbol that is defined; none where they can't be read, as they only help."""
+        found = []
+        try:
+            for s in (s for s in self.sections if s.kind == SHT_SYMTAB):
                 strings, body = self.sections[s.link].offset, self.bytes_of(s)
-                for name, value, _, info, _, _ in struct.iter_unpack("<IIIBBH", body[:len(body) // 16 * 16]):
-                    if info & 15 == 2 and value & ~1 not in names:
-                        names[value & ~1] = self.text(strings + name)
-        return names
+                for name, value, _, info, _, section in struct.iter_unpack("<IIIBBH", body[:len(body) // 16 * 16]):
+                    if section:
+                        found.append((self.text(strings + name), value, info & 15))
+        except UNREADABLE:
+            return []
+        return found
+
+    def functions(self):
+        """Address to name; of several, the first."""
+        return {value & ~1: name for name, value, kind in reversed(self.symbols()) if kind == STT_FUNC}
 
 
 def span_of(s):
@@ -160,11 +189,13 @@ def folded(elf, held, lowest):
 
 
 def image(elf):
-    span = elf.index()
+    span, trimmed = elf.trimmed(elf.index())
     index = elf.bytes_of(span)
     if len(index) % 8:
         raise NotWhole(f"the index has {len(index)} bytes, which is no whole number of entries of 8")
-    return Image(span.address, index, *table_of(elf, list(led(span.address, index))))
+    # what leads into the index itself, as zero bytes do, leads to no table
+    table_at, table, note = table_of(elf, [(k, a) for k, a in led(span.address, index) if a not in span_of(span)])
+    return Image(span.address, index, table_at, table, [n for n in (trimmed, note) if n])
 
 
 def filled(image):
@@ -191,15 +222,15 @@ def main():
         elf = Elf(open(args[0], "rb").read())
         taken = image(elf)
         if "--functions" in sys.argv:
-            for k, a, name in functions(taken.index_at, taken.index, elf.symbols()):
+            for k, a, name in functions(taken.index_at, taken.index, elf.functions()):
                 print(f"{k} {a:08x} {name}")
             return
         whole = bundle(taken)
     except UNREADABLE as why:
         sys.exit(f"{args[0]}: {why}")
     open(args[1], "wb").write(whole)
-    if taken.note:
-        print(taken.note, file=sys.stderr)
+    for note in taken.notes:
+        print(note, file=sys.stderr)
     if filled(taken):
         print(f"The last {filled(taken)} bytes only fill the table's last word: audit_image {filled(taken)} <{args[1]}", file=sys.stderr)
 
