@@ -149,7 +149,8 @@ def tables():
     yield "a table that is not in the file", elf([exidx(index), Section(".bss", TABLE_AT, 64, NOBITS)]), None, "the file has no bytes there, in .bss"
     part = [bounds(index), Segment(LOAD, TABLE_AT, 4, 64)]
     yield "a segment of which a part is in the file", elf([exidx(index), Section("x", TABLE_AT, table)], part, headers=False), None, "the file has no bytes there, in segment 1"
-    yield "debug information over the table's address", elf([exidx(index), extab(table), Section(".debug", TABLE_AT, bytes(64), 1, 0)]), sound, ""
+    yield "debug information over the table's address", elf([exidx(index), rodata._replace(body=bytes(64) + table), Section(".debug", TABLE_AT, bytes(64), 1, 0)]), sound, "The table is in .rodata"
+    yield "a section laid over .ARM.extab", elf([exidx(index), extab(table), Section(".overlay", TABLE_AT, bytes(64))]), sound, ""
 
 
 def places():
