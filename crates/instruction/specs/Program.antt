@@ -1,4 +1,4 @@
--- The instructions of an entry as one walk, through the first Finish or Refused or to the end. A run, an audit and a comparison are functions of its trail.
+-- The instructions of an entry as one walk, through the first Finish or Refused or to the end. A run and an audit are functions of its trail.
 use Prim.Native.Nat.{ℕ, _+_, _≤_}
 use mathlib.Core.List.{List}
 use mathlib.Core.Bool.{Bool, true, false}

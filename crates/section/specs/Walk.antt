@@ -1,6 +1,6 @@
 -- A walk: from a place to the next, an item at each, until it is done, meets a last item, or something there cannot be read.
--- Instructions of an entry and call sites of language data are walks over positions; runs, audits, searches and lists of them are functions of one
--- trail. Places can be anything: a replay walks over registers, a chain of records over offsets in any order.
+-- Instructions of an entry and call sites of language data are walks over positions; runs, audits and searches are functions of one trail. A place can
+-- be anything.
 use Prim.Native.Nat.{ℕ, zero, suc, _<_}
 use mathlib.Core.Path.{_≡_}
 use Rattle.section.specs.Check.{andThen}
