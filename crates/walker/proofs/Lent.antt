@@ -14,7 +14,7 @@ use types.Kit.{Given, Item, Post, Seq, ‵, raw, mean, _⊛_, given, ⋆, some, 
 use types.Run.{Opds}
 use sound.WpLaws.{FmC}
 use contract.Monad.{fact}
-use denote.RattleType.{RattleType, owns}
+use denote.RattleType.{RattleType, Denots, Valss, owns}
 use denote.Laws.{Is}
 use denote.Plain.{uint-makes}
 use denote.Builtin.{u8, u32}
@@ -50,13 +50,18 @@ module _ {M : Type 1} (𝓤 : URA M) (H : Heap 𝓤) (A : Atoms 𝓤) (W : Given
   abbrev Token : Item 𝓤
   Token = ‵ (flft κ q) ⊛ ‵ ftrue
 
-  -- the slice with another number, beside the two as they were
-  pub beside : (n m : ℕ) → m < 2 ^ 32 → ent 𝓤 (sem 𝓤 H A (Both κ s n)) (sep 𝓤 (sem 𝓤 H A (Both κ s m)) (sem 𝓤 H A (Both κ s n)))
-  beside n m fits =
-      qed W (‵ (Both κ s n) ∷ []) ∵ fsplit ! $ use1 W (‵ Slice ⊛ ‵ Slice) (shr-slice-copy 𝓤 H A W (named 0) κ u8 .twice s (sliceWord s ∷ [])) $ split ! $
+  -- the slice with a number, beside the slice and all else that was there
+  pub beside : (Ts : List RattleType) (xs : Denots Ts) (ws : Valss Ts) (m : ℕ) → m < 2 ^ 32
+      → ent 𝓤 (sem 𝓤 H A (owns (ShrSlice (named 0) κ u8 ∷ Ts) (s, xs) (sliceWord s ∷ [], ws))) (sep 𝓤 (sem 𝓤 H A (Both κ s m)) (sem 𝓤 H A (owns (ShrSlice (named 0) κ u8 ∷ Ts) (s, xs) (sliceWord s ∷ [], ws))))
+  beside Ts xs ws m fits =
+      qed W (‵ (owns (ShrSlice (named 0) κ u8 ∷ Ts) (s, xs) (sliceWord s ∷ [], ws)) ∷ []) ∵ fsplit ! $ use1 W (‵ Slice ⊛ ‵ Slice) (shr-slice-copy 𝓤 H A W (named 0) κ u8 .twice s (sliceWord s ∷ [])) $ split ! $
       nothing ! $ owned ! u32 (Is u32) (uint-makes 𝓤 H A W w32) m _ (refl, fits) $ fjoin ! $ move ! (1 ∷ 0 ∷ []) $ fjoin ! $
-      -- [the slice with m; the slice; what n owns]
+      -- [the slice with m; the slice; what else was there]
       move ! (1 ∷ 2 ∷ []) $ fjoin ! $ move ! (1 ∷ []) $ done !
+
+  -- of the two
+  pub beside-two : (n m : ℕ) → m < 2 ^ 32 → ent 𝓤 (sem 𝓤 H A (Both κ s n)) (sep 𝓤 (sem 𝓤 H A (Both κ s m)) (sem 𝓤 H A (Both κ s n)))
+  beside-two n = beside (u32 ∷ []) (n, tt) (vint w32 n ∷ [], tt)
 
   abbrev pub Asked : ℕ → SProp 𝓤
   Asked n = sep 𝓤 (⋆ 𝓤 H A (Token ∷ ‵ (Both κ s n) ∷ [])) (emp 𝓤)
@@ -64,7 +69,7 @@ module _ {M : Type 1} (𝓤 : URA M) (H : Heap 𝓤) (A : Atoms 𝓤) (W : Given
   -- what a function on the two asks at its entry, beside the two
   pub lent : (n : ℕ) → n < 2 ^ 32 → ent 𝓤 (⋆ 𝓤 H A (‵ (Both κ s n) ∷ Token ∷ [])) (sep 𝓤 (Asked n) (sem 𝓤 H A (Both κ s n)))
   lent n fits =
-      qed W (‵ (Both κ s n) ∷ Token ∷ []) ∵ use1 W (‵ (Both κ s n) ⊛ ‵ (Both κ s n)) (beside n n fits) $ split ! $ move ! (2 ∷ 0 ∷ []) $
+      qed W (‵ (Both κ s n) ∷ Token ∷ []) ∵ use1 W (‵ (Both κ s n) ⊛ ‵ (Both κ s n)) (beside-two n n fits) $ split ! $ move ! (2 ∷ 0 ∷ []) $
       use2 W (raw (Asked n)) (qed W (Token ∷ ‵ (Both κ s n) ∷ []) ∵ join ! $ frame ! $ done !) $ frame ! $ done !
 
 -- a call of a function on the two: it says P of its answer, and the token and the two are there again

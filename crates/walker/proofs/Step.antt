@@ -25,7 +25,7 @@ use denote.Signature.{namedLft}
 use denote.Slice.{sliceTy}
 use denote.Steps.{only, peeks}
 use Rattle.walker.specs.declared.UnwindByteIter.{UnwindByteIter}
-use Rattle.walker.proofs.Lent.{sliceWord, answerWord, Both, beside, Asked, asks, Walker, apart}
+use Rattle.walker.proofs.Lent.{sliceWord, answerWord, Both, beside-two, Asked, asks, Walker, apart}
 use Rattle.walker.proofs.UnwindByteIter as T
 use Rattle.walker.proofs.UnwindByteIter.Laws as T′
 
@@ -99,7 +99,7 @@ module _ {M : Type 1} (𝓤 : URA M) (H : Heap 𝓤) (A : Atoms 𝓤) (W : Given
           -- [the number; the token; the two; the first answer; the walker; room for _8; …; .. room for _3; …]
           peeks ! u32 (Is u32) (shows 𝓤 H A u32) n (u₂ ∷ []) (λ is₂.
           land ! (from ! (stop !)) (init ! 15 refl (uint-lawful 𝓤 H A W w32 .typed n _ is₂ .0)) $ rewrite ! 15 (λ (x : Val). ‵ (fat fullShare (tyInt w32) l₃ 0 x)) (ap only (is₂ .0)) refl $
-          drop ! $ move ! (1 ∷ []) $ use1 W (‵ (Both κ (d .bytes) n) ⊛ ‵ two) (beside 𝓤 H A W κ q (d .bytes) (d .pos) n (is₂ .1)) $ split ! $ move ! (1 ∷ []) $ drop ! $
+          drop ! $ move ! (1 ∷ []) $ use1 W (‵ (Both κ (d .bytes) n) ⊛ ‵ two) (beside-two 𝓤 H A W κ q (d .bytes) (d .pos) n (is₂ .1)) $ split ! $ move ! (1 ∷ []) $ drop ! $
           move ! (2 ∷ 0 ∷ []) $ use2 W (‵ (Y .own (made r n) (answer r n ∷ []))) (makes r n) $
           -- [the result; the token; the walker; room for _8; …; .. _1; …; room for _0; …]
           peeks ! Y (Is Y) (shows 𝓤 H A Y) (made r n) (answer r n ∷ []) (λ is₃.

@@ -2,9 +2,7 @@
 // A function over a struct that holds a slice is proved by hand, so each only takes it apart: the work is done on a slice and a number.
 ghost use mathlib.Core.Path.{_≡_};
 ghost use Rattle.section.specs.View.{Part};
-ghost use Rattle.instruction.specs.Bytes.{byteOf};
-ghost use Rattle.instruction.specs.Decode.{decodeOf};
-ghost use Rattle.walker.specs.Walker.{startRule, startSpot, startPos, posAfterByte, posAfterInstruction, orRefused, firstByte};
+ghost use Rattle.walker.specs.Walker.{startRule, startSpot, startPos, posAfterByte, posAfterInstruction, Starts, StepsByte, StepsInstruction, byteOrRefused, instructionOrRefused, walkedByte, walkedInstruction};
 use instruction::Byte;
 use instruction::Decoded;
 use section::Check;
@@ -34,6 +32,18 @@ pub struct NextByte<'a> {
 pub struct NextInstruction<'a> {
     pub got: Decoded,
     pub bytes: &'a [u8],
+    pub pos: u32,
+}
+
+// A byte of a walk and the position after it: plain values.
+pub struct WalkedByte {
+    pub got: Byte,
+    pub pos: u32,
+}
+
+// An instruction of a walk and the position after it.
+pub struct WalkedInstruction {
+    pub got: Decoded,
     pub pos: u32,
 }
 
@@ -97,7 +107,7 @@ fn pos_after_instruction(bytes: &[u8], pos: u32) -> u32
 
 // A walker at the skip; where the bytes are no instruction words or the skip is over 2, why, and a walker over nothing.
 pub fn from_bytes<'a>(bytes: &'a [u8], skip: u32) -> Started<'a>
-    ensures { λ r. ⌜ (r .check ≡ startRule (now (bytes .entry)) skip) × (Part (bytes .entry) (r .bytes) (startSpot (now (bytes .entry)) skip) × (r .pos ≡ startPos (now (bytes .entry)) skip)) ⌝ }
+    ensures { λ r. ⌜ Starts (bytes .entry) skip r ⌝ }
 {
     let check = start_rule(bytes, skip);
     let part = start_part(bytes, skip);
@@ -111,7 +121,7 @@ pub fn from_bytes<'a>(bytes: &'a [u8], skip: u32) -> Started<'a>
 
 // The byte at the walker, and the walker one further; at the end it stays.
 pub fn next_byte<'a>(it: UnwindByteIter<'a>) -> NextByte<'a>
-    ensures { λ r. ⌜ (r .got ≡ byteOf (now (it .entry .bytes)) (it .entry .pos)) × ((r .bytes ≡ it .entry .bytes) × (r .pos ≡ posAfterByte (now (it .entry .bytes)) (it .entry .pos))) ⌝ }
+    ensures { λ r. ⌜ StepsByte (it .entry) r ⌝ }
 {
     let got = instruction::byte_at(it.bytes, it.pos);
     let pos = pos_after_byte(it.bytes, it.pos);
@@ -124,7 +134,7 @@ pub fn next_byte<'a>(it: UnwindByteIter<'a>) -> NextByte<'a>
 
 // The instruction at the walker, and the walker after it; at the end it stays.
 pub fn next_instruction<'a>(it: UnwindByteIter<'a>) -> NextInstruction<'a>
-    ensures { λ r. ⌜ (r .got ≡ decodeOf (now (it .entry .bytes)) (it .entry .pos)) × ((r .bytes ≡ it .entry .bytes) × (r .pos ≡ posAfterInstruction (now (it .entry .bytes)) (it .entry .pos))) ⌝ }
+    ensures { λ r. ⌜ StepsInstruction (it .entry) r ⌝ }
 {
     let got = instruction::decode(it.bytes, it.pos);
     let pos = pos_after_instruction(it.bytes, it.pos);
@@ -136,23 +146,51 @@ pub fn next_instruction<'a>(it: UnwindByteIter<'a>) -> NextInstruction<'a>
 }
 
 // What the walker got, or why no walk may start.
-fn or_refused(check: Check, got: Byte) -> Byte
-    ensures { λ r. ⌜ r ≡ orRefused check got ⌝ }
+fn byte_or_refused(check: Check, got: Byte, pos: u32) -> WalkedByte
+    ensures { λ r. ⌜ r ≡ byteOrRefused check got pos ⌝ }
 {
     match check {
-        Check::Fine => got,
-        Check::Fault(r) => Byte::Refused(r),
+        Check::Fine => WalkedByte { got, pos },
+        Check::Fault(r) => WalkedByte {
+            got: Byte::Refused(r),
+            pos: 0,
+        },
     }
 }
 
-// The first byte of a walk, for a caller that keeps no walker.
-pub fn first_byte(bytes: &[u8], skip: u32) -> Byte
-    ensures { λ r. ⌜ r ≡ firstByte (now (bytes .entry)) skip ⌝ }
+// The same of an instruction.
+fn instruction_or_refused(check: Check, got: Decoded, pos: u32) -> WalkedInstruction
+    ensures { λ r. ⌜ r ≡ instructionOrRefused check got pos ⌝ }
+{
+    match check {
+        Check::Fine => WalkedInstruction { got, pos },
+        Check::Fault(r) => WalkedInstruction {
+            got: Decoded::Refused(r),
+            pos: 0,
+        },
+    }
+}
+
+// One byte of a walk that has come to a position, for a caller that keeps no walker.
+pub fn walk_byte(bytes: &[u8], skip: u32, pos: u32) -> WalkedByte
+    ensures { λ r. ⌜ r ≡ walkedByte (now (bytes .entry)) skip pos ⌝ }
 {
     let start = from_bytes(bytes, skip);
     let next = next_byte(UnwindByteIter {
         bytes: start.bytes,
-        pos: start.pos,
+        pos,
     });
-    or_refused(start.check, next.got)
+    byte_or_refused(start.check, next.got, next.pos)
+}
+
+// One instruction of such a walk.
+pub fn walk_instruction(bytes: &[u8], skip: u32, pos: u32) -> WalkedInstruction
+    ensures { λ r. ⌜ r ≡ walkedInstruction (now (bytes .entry)) skip pos ⌝ }
+{
+    let start = from_bytes(bytes, skip);
+    let next = next_instruction(UnwindByteIter {
+        bytes: start.bytes,
+        pos,
+    });
+    instruction_or_refused(start.check, next.got, next.pos)
 }
