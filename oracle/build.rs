@@ -1,4 +1,4 @@
-// Copies the two files of Hopter as they are and adds one line to each copy, a module that can see their private items. Links the library.
+// Copies the two files of Hopter as they are and adds one line to each copy, a module that can see their private items. Links the two libraries.
 use std::{env, fs, path::PathBuf};
 
 fn main() {
@@ -18,7 +18,9 @@ fn main() {
     fs::write(out.join("unwind.rs"), format!("pub mod unwind {{\n{modules}}}\n")).unwrap();
 
     let library = here.join("../target/staticlib");
-    println!("cargo:rerun-if-changed={}", library.join("libanrukfal.a").display());
     println!("cargo:rustc-link-search=native={}", library.display());
-    println!("cargo:rustc-link-lib=static=anrukfal");
+    for name in ["anrukfal", "readers"] {
+        println!("cargo:rerun-if-changed={}", library.join(format!("lib{name}.a")).display());
+        println!("cargo:rustc-link-lib=static={name}");
+    }
 }

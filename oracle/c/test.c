@@ -1,5 +1,6 @@
-/* Every call of the library on the paper's own cases, as a C program would make them. */
+/* Every call of the two libraries on the paper's own cases, as a C program would make them. */
 #include "anrukfal.h"
+#include "anrukfal_readers.h"
 
 #include <stdio.h>
 #include <string.h>
@@ -219,6 +220,43 @@ static void bundles(void)
     HELD(1, anrukfal_bundle(BYTES(2, 0, 0, 0, 1, 0, 0, 0, 0xFD, 0xFF, 0xFF, 0xFF, 0, 0, 0, 0, 1, 0, 0, 0, 9, 9, 9, 9), row), 0, 0, 0, 0, 0, 0);
 }
 
+static void readers(void)
+{
+    VALUE(0, anrukfal_sections(index_bytes, 24, 0x8000, NULL, 0, 0x9000));
+    VALUE(1, anrukfal_sections(index_bytes, 23, 0x8000, NULL, 0, 0x9000));
+    HELD(0, anrukfal_offset(0x9000, 8, 0x9007, row), 7);
+    HELD(5, anrukfal_offset(0x9000, 8, 0x9008, row), 0);
+    HELD(5, anrukfal_offset(0x9000, 8, 0x8FFF, row), 0);
+    HELD(0, anrukfal_plus(0xFFFFFFFE, 1, row), 0xFFFFFFFF);
+    HELD(10, anrukfal_plus(0xFFFFFFFE, 2, row), 0);
+    HELD(0, anrukfal_word(BYTES(9, 0x78, 0x56, 0x34, 0x12), 1, row), 0x12345678);
+    HELD(6, anrukfal_word(BYTES(9, 0x78, 0x56, 0x34, 0x12), 2, row), 0);
+    HELD(0, anrukfal_byte(BYTES(0xB0, 0xB1, 0xA8, 0x80), 1, row), 1, 0xA8);
+    HELD(0, anrukfal_byte(BYTES(0xB0, 0xB1, 0xA8, 0x80), 4, row), 0, 0);
+    HELD(1, anrukfal_byte(BYTES(0xB0, 0xB1, 0xA8), 0, row), 0, 0);
+    HELD(0, anrukfal_function(index_bytes, 24, 0x8000, 2, row), 0x7200);
+    HELD(6, anrukfal_function(index_bytes, 24, 0x8000, 3, row), 0);
+    HELD(0, anrukfal_content(index_bytes, 24, 0x8000, 0, row), 0, 0, 0, 0, 0);
+    HELD(0, anrukfal_content(index_bytes, 24, 0x8000, 1, row), 1, 0, 12, 1, 1);
+    HELD(0, anrukfal_content(index_bytes, 24, 0x8000, 2, row), 4, 0x9000, 0, 0, 0);
+    HELD(0, anrukfal_entry(index_bytes, 24, 0x8000, NULL, 0, 0x9000, 1, row), 0x7100, 1, 0, 12, 1, 1, 0);
+    HELD(5, anrukfal_entry(index_bytes, 24, 0x8000, NULL, 0, 0x9000, 2, row), 0, 0, 0, 0, 0, 0, 0);
+    HELD(0, anrukfal_site(BYTES(SITES(4)), 0x08001000, 0x01, 4, 8, 4, row), 1, 0x08001010, 0x08001018, 0x20, 0, 8);
+    HELD(0, anrukfal_site(BYTES(SITES(4)), 0x08001000, 0x01, 4, 8, 8, row), 0, 0, 0, 0, 0, 0);
+    HELD(6, anrukfal_site(BYTES(SITES(5)), 0x08001000, 0x01, 4, 9, 8, row), 0, 0, 0, 0, 0, 0);
+    HELD(0, anrukfal_walk_byte(BYTES(0xB0, 0xB1, 0xA8, 0x80), 1, 3, row), 1, 0xB0, 4);
+    HELD(0, anrukfal_walk_byte(BYTES(0xB0, 0xB1, 0xA8, 0x80), 1, 4, row), 0, 0, 4);
+    HELD(1, anrukfal_walk_byte(BYTES(0xB0, 0xB1, 0xA8, 0x80), 3, 3, row), 0, 0, 0);
+    HELD(0, anrukfal_walk_instruction(BYTES(0xB0, 0xB0, 0xA8, 0x80), 1, 1, row), REGISTERS, 0x4010, 0, 2);
+    HELD(0, anrukfal_walk_instruction(BYTES(0xB0, 0xB0, 0xA8, 0x80), 1, 4, row), END, 0, 0, 4);
+    HELD(1, anrukfal_walk_instruction(BYTES(0xB0, 0xB0, 0xA8), 1, 1, row), 0, 0, 0, 0);
+    uint64_t header[4] = {9, 9, 9, 9}, wanted[4] = {0x08001000, 0x01, 4, 8};
+    VALUE(0, anrukfal_header(BYTES(SITES(4)), 0x08001000, header));
+    VALUE(0, (uint32_t)memcmp(header, wanted, sizeof header));
+    VALUE(6, anrukfal_header(NULL, 0, 0x08001000, header));
+    VALUE(0, (uint32_t)memcmp(header, (uint64_t[4]){0}, sizeof header));
+}
+
 int main(void)
 {
     prel31();
@@ -230,6 +268,7 @@ int main(void)
     steps();
     audits();
     bundles();
-    printf("%14s: %11d checks, %d faults\n", "C", checks, faults);
+    readers();
+    printf("%24s: %11d checks, %d faults\n", "C", checks, faults);
     return faults != 0;
 }

@@ -26,18 +26,43 @@ impl<'a> Walk<'a> {
     }
 }
 
+// The walk over bytes alone, and its position.
+pub struct Bytes<'a>(UnwindByteIter<'a>);
+
+impl<'a> Bytes<'a> {
+    pub fn over(words: &'a [u8]) -> Result<Self, &'static str> {
+        UnwindByteIter::from_bytes(words).map(Bytes)
+    }
+
+    pub fn next(&mut self) -> Option<u8> {
+        self.0.next()
+    }
+
+    pub fn position(&self) -> usize {
+        self.0.pos
+    }
+}
+
 pub enum Content<'a> {
     Table(u32),
     Compact(PersonalityType, Walk<'a>),
     CantUnwind,
 }
 
-pub fn index_entry(bytes: &[u8; 8]) -> Result<(u32, Content<'_>), &'static str> {
-    let entry = ExIdxEntry::from_bytes(bytes)?;
-    let content = match &entry.content {
+fn content_of<'a>(is: &ExIdxEntryContent<'a>) -> Content<'a> {
+    match is {
         ExIdxEntryContent::ExTabEntryAddr(a) => Content::Table(*a),
         ExIdxEntryContent::Compact(p, walk) => Content::Compact(p.clone(), Walk(walk.clone())),
         ExIdxEntryContent::CantUnwind => Content::CantUnwind,
-    };
-    Ok((entry.get_func_addr(), content))
+    }
+}
+
+// The content word alone, whatever the function word is.
+pub fn content(bytes: &[u8; 4]) -> Content<'_> {
+    content_of(&ExIdxEntryContent::from_raw(Prel31::from_bytes(bytes), bytes))
+}
+
+pub fn index_entry(bytes: &[u8; 8]) -> Result<(u32, Content<'_>), &'static str> {
+    let entry = ExIdxEntry::from_bytes(bytes)?;
+    Ok((entry.get_func_addr(), content_of(&entry.content)))
 }

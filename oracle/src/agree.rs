@@ -1,16 +1,17 @@
 //! The library against the plain reading of the paper: every number, every field of every row, every register, and what was lent.
+use crate::agree_readers::Readers;
 use oracle::anrukfal::{raw, Image, Registers, Section};
 use oracle::images::{self, Held, Made};
 use oracle::memory::Arena;
 use oracle::random::Random;
 use oracle::rows::{told, Asked};
-use oracle::tally::{hex, Tally};
+use oracle::tally::{hex, number, Tally};
 use oracle::{anrukfal, cases, plain};
 
 /// What stands in a row before a call.
 const BEFORE: u32 = 0xA5A5_A5A5;
 
-fn filled<const N: usize>(call: impl FnOnce(&mut [u32; N]) -> u32) -> (u32, [u32; N]) {
+pub fn filled<const N: usize>(call: impl FnOnce(&mut [u32; N]) -> u32) -> (u32, [u32; N]) {
     let mut row = [BEFORE; N];
     let number = call(&mut row);
     (number, row)
@@ -31,29 +32,29 @@ struct Tallies {
     lent: Tally,
 }
 
-pub fn all(images: usize) -> bool {
+pub fn all(images: usize) -> Vec<Tally> {
     let mut t = Tallies {
-        prel31: Tally::new("prel31"),
-        pointer: Tally::new("pointers"),
-        instruction: Tally::new("instructions"),
-        index: Tally::new("index entries"),
-        table: Tally::new("table entries"),
-        site: Tally::new("call sites"),
-        bundle: Tally::new("bundles"),
-        search: Tally::new("search"),
-        lookup: Tally::new("lookup"),
-        step: Tally::new("step"),
-        audit: Tally::new("audit"),
-        lent: Tally::new("lent memory"),
+        prel31: Tally::new("plain prel31"),
+        pointer: Tally::new("plain pointers"),
+        instruction: Tally::new("plain instructions"),
+        index: Tally::new("plain index entries"),
+        table: Tally::new("plain table entries"),
+        site: Tally::new("plain call sites"),
+        bundle: Tally::new("plain bundles"),
+        search: Tally::new("plain search"),
+        lookup: Tally::new("plain lookup"),
+        step: Tally::new("plain step"),
+        audit: Tally::new("plain audit"),
+        lent: Tally::new("plain lent memory"),
     };
+    let mut readers = Readers::new();
     let mut arenas = Arena::more();
     let mut r = Random::seeded(31);
-    let mut passed = 0;
     for _ in 0..images {
         let entries = r.below(21);
         let wild = r.once_in(2);
         let made = images::image(&mut r, entries, 64, wild);
-        passed += t.of_image(&mut arenas, &made, &mut r, 1) as usize;
+        t.of_image(&mut arenas, &made, &mut r, 1);
     }
     for entries in [8190, 8191, 8192, 8193, 8194, 1000] {
         for _ in 0..4 {
@@ -67,29 +68,27 @@ pub fn all(images: usize) -> bool {
         t.small(&mut r);
         t.of_bundle(&mut r);
     }
-    let list = [
-        &t.prel31, &t.pointer, &t.instruction, &t.index, &t.table, &t.site, &t.bundle, &t.search, &t.lookup, &t.step, &t.audit, &t.lent,
+    readers.images(images / 10, &mut arenas);
+    readers.small(images / 4);
+    readers.limits();
+    let mut tallies = vec![
+        t.prel31, t.pointer, t.instruction, t.index, t.table, t.site, t.bundle, t.search, t.lookup, t.step, t.audit, t.lent,
     ];
-    let mut good = true;
-    for tally in list {
-        good &= tally.report();
-    }
-    let compared: u64 = list.iter().map(|t| t.compared).sum();
-    println!("{:>14}: {compared:>11} compared with plain Rust, {images} images, {passed} of them sound", "all");
-    good
+    tallies.extend(readers.tallies());
+    tallies
 }
 
-fn show(made: &Image) -> String {
+pub fn show(made: &Image) -> String {
     let one = |s: Section| format!("{} at {:x}", hex(&s.bytes[..s.bytes.len().min(400)]), s.address);
     format!("index {} table {}", one(made.index), one(made.table))
 }
 
 /// A section whose bytes end where memory ends.
-fn lend<'a>(arena: &'a mut Arena, held: &Held) -> Section<'a> {
+pub fn lend<'a>(arena: &'a mut Arena, held: &Held) -> Section<'a> {
     Section { bytes: arena.put_last(&held.bytes), address: held.address }
 }
 
-fn size(image: &Image) -> usize {
+pub fn size(image: &Image) -> usize {
     image.index.bytes.len() + image.table.bytes.len()
 }
 
@@ -97,6 +96,7 @@ impl Tallies {
     fn pointer(&mut self, data: &[u8], at: u32, encoding: u8) {
         let ours = filled(|row| unsafe { raw::anrukfal_pointer(data.as_ptr(), data.len(), at, encoding, row) });
         let paper = plain::pointer(data, at, encoding);
+        self.pointer.number(number(&paper));
         self.pointer.same((ours, anrukfal::pointer(data, at, encoding)), (told(paper), paper), data.len(), || {
             format!("{} from {at:x} by {encoding:x}", hex(data))
         });
@@ -105,18 +105,20 @@ impl Tallies {
     fn instruction(&mut self, words: &[u8], at: u32) {
         let ours = filled(|row| unsafe { raw::anrukfal_instruction(words.as_ptr(), words.len(), at, row) });
         let paper = plain::instruction(words, at);
+        self.instruction.number(number(&paper));
         let row = told(paper.map(|is| Asked(at, is)));
         self.instruction.same((ours, anrukfal::instruction(words, at)), (row, paper), words.len(), || {
             format!("{} from {at:x}", hex(words))
         });
     }
 
-    fn index_entry(&mut self, index: Section, number: u32) {
+    fn index_entry(&mut self, index: Section, entry: u32) {
         let Section { bytes, address } = index;
-        let ours = filled(|row| unsafe { raw::anrukfal_index_entry(bytes.as_ptr(), bytes.len(), address, number, row) });
-        let paper = plain::index_entry(index, number);
-        self.index.same((ours, anrukfal::index_entry(index, number)), (told(paper), paper), bytes.len(), || {
-            format!("entry {number:x} of {} at {address:x}", hex(bytes))
+        let ours = filled(|row| unsafe { raw::anrukfal_index_entry(bytes.as_ptr(), bytes.len(), address, entry, row) });
+        let paper = plain::index_entry(index, entry);
+        self.index.number(number(&paper));
+        self.index.same((ours, anrukfal::index_entry(index, entry)), (told(paper), paper), bytes.len(), || {
+            format!("entry {entry:x} of {} at {address:x}", hex(bytes))
         });
     }
 
@@ -124,6 +126,7 @@ impl Tallies {
         let Section { bytes, address } = table;
         let ours = filled(|row| unsafe { raw::anrukfal_table_entry(bytes.as_ptr(), bytes.len(), address, offset, row) });
         let paper = plain::table_entry(table, offset);
+        self.table.number(number(&paper));
         self.table.same((ours, anrukfal::table_entry(table, offset)), (told(paper), paper), bytes.len(), || {
             format!("offset {offset:x} of {} at {address:x}", hex(bytes))
         });
@@ -132,6 +135,7 @@ impl Tallies {
     fn call_site(&mut self, data: &[u8], function: u32, counter: u32) {
         let ours = filled(|row| unsafe { raw::anrukfal_call_site(data.as_ptr(), data.len(), function, counter, row) });
         let paper = plain::call_site(data, function, counter);
+        self.site.number(number(&paper));
         self.site.same((ours, anrukfal::call_site(data, function, counter)), (told(paper), paper), data.len(), || {
             format!("function {function:x} counter {counter:x} data {}", hex(data))
         });
@@ -140,7 +144,7 @@ impl Tallies {
     fn bundle(&mut self, bytes: &[u8]) {
         let ours = filled(|row| unsafe { raw::anrukfal_bundle(bytes.as_ptr(), bytes.len(), row) });
         let paper = plain::bundle(bytes);
-        self.bundle.number(told(paper).0);
+        self.bundle.number(number(&paper));
         self.bundle.same((ours, anrukfal::bundle(bytes)), (told(paper), paper), bytes.len(), || hex(&bytes[..bytes.len().min(400)]));
     }
 
@@ -148,7 +152,7 @@ impl Tallies {
         let Section { bytes, address } = image.index;
         let ours = filled(|row| unsafe { raw::anrukfal_search(bytes.as_ptr(), bytes.len(), address, counter, row) });
         let paper = plain::search(image.index, counter);
-        self.search.number(told(paper).0);
+        self.search.number(number(&paper));
         self.search.same((ours, anrukfal::search(image.index, counter)), (told(paper), paper), bytes.len(), || {
             format!("counter {counter:x} {}", show(image))
         });
@@ -161,7 +165,7 @@ impl Tallies {
             raw::anrukfal_lookup(a.as_ptr(), a.len(), index.address, b.as_ptr(), b.len(), table.address, counter, row)
         });
         let paper = plain::lookup(image, counter);
-        self.lookup.number(told(paper).0);
+        self.lookup.number(number(&paper));
         self.lookup.same((ours, anrukfal::lookup(image, counter)), (told(paper), paper), size(image), || {
             format!("counter {counter:x} {}", show(image))
         });
@@ -188,13 +192,13 @@ impl Tallies {
         });
         let told_typed = anrukfal::step(image, stack, &mut typed);
         let told_paper = plain::step(image, stack, &mut paper);
-        self.step.number(told(told_paper).0);
+        self.step.number(number(&told_paper));
         self.step.same((row, ours, told_typed, typed), (told(told_paper), paper, told_paper, paper), size(image) + stack.bytes.len(), || {
             format!("{before:x?} stack {} at {:x} {}", hex(stack.bytes), stack.address, show(image))
         });
     }
 
-    fn audit(&mut self, image: &Image) -> bool {
+    fn audit(&mut self, image: &Image) {
         let Image { index, table } = *image;
         let ours = filled(|row: &mut [u32; 1]| unsafe {
             let (a, b) = (index.bytes, table.bytes);
@@ -204,11 +208,10 @@ impl Tallies {
         let row = paper.map_or_else(|fault| (fault.refusal.number(), [fault.entry]), |()| (0, [0]));
         self.audit.number(row.0);
         self.audit.same((ours, anrukfal::audit(image)), (row, paper), size(image), || show(image));
-        paper.is_ok()
     }
 
-    /// Every call on an image whose sections end where memory ends. Says whether it is sound.
-    fn of_image(&mut self, arenas: &mut [Arena], made: &Made, r: &mut Random, times: usize) -> bool {
+    /// Every call on an image whose sections end where memory ends.
+    fn of_image(&mut self, arenas: &mut [Arena], made: &Made, r: &mut Random, times: usize) {
         let [a, b, c, ..] = arenas else { unreachable!() };
         let (index, table, stack) = (lend(a, &made.index), lend(b, &made.table), lend(c, &made.stack));
         let image = Image { index, table };
@@ -226,16 +229,15 @@ impl Tallies {
             let at = r.below(table.bytes.len() + 1);
             self.call_site(&table.bytes[at..], images::counter(r, made), images::counter(r, made));
         }
-        let sound = self.audit(&image);
+        self.audit(&image);
         let same = index.bytes == made.index.bytes && table.bytes == made.table.bytes && stack.bytes == made.stack.bytes;
-        self.lent.same(same, true, size(&image), || show(&image));
-        sound
+        self.lent.value(same, true, size(&image), || show(&image));
     }
 
     /// Calls that take no image.
     fn small(&mut self, r: &mut Random) {
         let (word, place) = (cases::word(r), cases::word(r));
-        self.prel31.same(anrukfal::prel31(word, place), plain::prel31(word, place), 8, || format!("{word:x} at {place:x}"));
+        self.prel31.value(anrukfal::prel31(word, place), plain::prel31(word, place), 8, || format!("{word:x} at {place:x}"));
         let encoding = if r.once_in(8) { r.byte() } else { r.one_of(&cases::ENCODINGS) };
         let data = cases::pointer_bytes(r, encoding);
         let at = if r.once_in(8) { cases::word(r) } else { r.below(2) as u32 };

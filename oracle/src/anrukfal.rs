@@ -40,7 +40,7 @@ impl Refusal {
 
 pub type Answer<T> = Result<T, Refusal>;
 
-fn answer<T>(number: u32, value: impl FnOnce() -> T) -> Answer<T> {
+pub(crate) fn answer<T>(number: u32, value: impl FnOnce() -> T) -> Answer<T> {
     match number {
         0 => Ok(value()),
         n => Err(Refusal::ALL[n as usize - 1]),
@@ -236,41 +236,43 @@ pub fn pointer(data: &[u8], at: u32, encoding: u8) -> Answer<Read> {
     answer(number, || Read { value: row[0], next: row[1] })
 }
 
+pub(crate) fn instruction_of([kind, a, b, next]: [u32; 4]) -> Option<(Instruction, u32)> {
+    let is = match kind {
+        0 => return None,
+        1 => Instruction::DataPop(a),
+        2 => Instruction::DataPush(a),
+        3 => Instruction::RegPop(a),
+        4 => Instruction::RegToSp(a),
+        5 => Instruction::VfpPop { start: a, count: b },
+        6 => Instruction::Finish,
+        7 => Instruction::Refused,
+        8 => Instruction::Reserved,
+        9 => Instruction::Unimplemented,
+        _ => Instruction::Error,
+    };
+    Some((is, next))
+}
+
 /// The instruction at a position and the position after it; none at the end.
 pub fn instruction(words: &[u8], at: u32) -> Answer<Option<(Instruction, u32)>> {
     let mut row = [0; 4];
     let number = unsafe { raw::anrukfal_instruction(words.as_ptr(), words.len(), at, &mut row) };
-    let [kind, a, b, next] = row;
-    answer(number, || {
-        let is = match kind {
-            0 => return None,
-            1 => Instruction::DataPop(a),
-            2 => Instruction::DataPush(a),
-            3 => Instruction::RegPop(a),
-            4 => Instruction::RegToSp(a),
-            5 => Instruction::VfpPop { start: a, count: b },
-            6 => Instruction::Finish,
-            7 => Instruction::Refused,
-            8 => Instruction::Reserved,
-            9 => Instruction::Unimplemented,
-            _ => Instruction::Error,
-        };
-        Some((is, next))
-    })
+    answer(number, || instruction_of(row))
+}
+
+pub(crate) fn content_of([kind, who, offset, words, skip]: [u32; 5]) -> Content {
+    match kind {
+        0 => Content::CannotUnwind,
+        1 => Content::Compact { selector: who, span: Span { offset, words, skip } },
+        _ => Content::Table(who),
+    }
 }
 
 pub fn index_entry(index: Section, number: u32) -> Answer<IndexEntry> {
     let mut row = [0; 6];
     let told = unsafe { raw::anrukfal_index_entry(index.bytes.as_ptr(), index.bytes.len(), index.address, number, &mut row) };
-    let [function, kind, who, offset, words, skip] = row;
-    answer(told, || {
-        let content = match kind {
-            0 => Content::CannotUnwind,
-            1 => Content::Compact { selector: who, span: Span { offset, words, skip } },
-            _ => Content::Table(who),
-        };
-        IndexEntry { function, content }
-    })
+    let [function, content @ ..] = row;
+    answer(told, || IndexEntry { function, content: content_of(content) })
 }
 
 pub fn table_entry(table: Section, offset: u32) -> Answer<TableEntry> {
@@ -302,14 +304,12 @@ pub fn bundle(bytes: &[u8]) -> Answer<Bundle> {
     answer(number, || Bundle { index_address, table_address, index_offset, index_bytes, table_offset, table_bytes })
 }
 
-#[cfg(feature = "all")]
 pub fn search(index: Section, counter: u32) -> Answer<Found> {
     let mut row = [0; 2];
     let number = unsafe { raw::anrukfal_search(index.bytes.as_ptr(), index.bytes.len(), index.address, counter, &mut row) };
     answer(number, || Found { entry: row[0], read: row[1] })
 }
 
-#[cfg(feature = "all")]
 pub fn lookup(image: &Image, counter: u32) -> Answer<Lookup> {
     let mut row = [0; 9];
     let Image { index, table } = image;
@@ -338,7 +338,6 @@ pub fn lookup(image: &Image, counter: u32) -> Answer<Lookup> {
 }
 
 /// One frame up. The registers stay as they were at a refusal.
-#[cfg(feature = "all")]
 pub fn step(image: &Image, stack: Section, registers: &mut Registers) -> Answer<Stepped> {
     let mut row = [0; 2];
     let Image { index, table } = image;
@@ -362,7 +361,6 @@ pub fn step(image: &Image, stack: Section, registers: &mut Registers) -> Answer<
 }
 
 /// Whether every lookup and every step of an image goes well; if not, the first fault.
-#[cfg(feature = "all")]
 pub fn audit(image: &Image) -> Result<(), Fault> {
     let mut row = [0; 1];
     let Image { index, table } = image;

@@ -187,6 +187,20 @@ pub fn language(r: &mut Random, function: u32) -> Vec<u8> {
     out
 }
 
+/// Language data whose call sites lie over each other, some of them empty.
+pub fn crowded(r: &mut Random) -> Vec<u8> {
+    let mut sites = Vec::new();
+    for _ in 0..1 + r.below(6) {
+        for most in [4, 6, 3, 2] {
+            uleb(&mut sites, r.below(most) as u64, 1);
+        }
+    }
+    let mut out = vec![0xFF, 0xFF, 0x01];
+    uleb(&mut out, sites.len() as u64, 1);
+    out.extend(sites);
+    out
+}
+
 /// Some bits flipped, an end cut off, a byte put in or taken out, or a byte of another kind.
 pub fn damage(r: &mut Random, bytes: &mut Vec<u8>) {
     for _ in 0..1 + r.below(3) {

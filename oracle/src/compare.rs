@@ -1,22 +1,18 @@
 //! The library against the Rust, on the domain that the paper states.
+use crate::compare_readers;
 use oracle::anrukfal::{self, Answer, Instruction, Read, Refusal, Section};
 use oracle::memory::{address, Arena};
 use oracle::parted::{self, Sites, Why};
 use oracle::random::Random;
-use oracle::tally::{hex, Tally};
+use oracle::tally::{hex, number, Tally};
 use oracle::unwind::unw_table::probe::Walk;
 use oracle::{cases, original, plain};
 
-pub fn all() -> bool {
+pub fn all() -> Vec<Tally> {
     let mut arenas = Arena::all();
-    let tallies = [listed(&mut arenas), prel31(&mut arenas), instructions(), index_entries(&mut arenas), table_entries(&mut arenas), pointers(), call_sites(&mut arenas)];
-    let mut good = true;
-    for t in &tallies {
-        good &= t.report();
-    }
-    let compared: u64 = tallies.iter().map(|t| t.compared).sum();
-    println!("{:>14}: {compared:>11} compared with the Rust", "all");
-    good
+    let mut tallies = vec![listed(&mut arenas), prel31(&mut arenas), instructions(), index_entries(&mut arenas), table_entries(&mut arenas), pointers(), call_sites(&mut arenas)];
+    tallies.extend(compare_readers::all(&mut arenas));
+    tallies
 }
 
 // ---- the inputs that docs/DIFFERENCES.md lists, with what it says of the Rust and of the paper
@@ -28,17 +24,17 @@ fn listed(arenas: &mut [Arena]) -> Tally {
         let skip = words.len() - bytes.len();
         let says = original::next(&mut Walk::over(&words, skip).unwrap()).map(|is| is.unwrap().0);
         let ours = anrukfal::instruction(&words, skip as u32).map(|is| is.unwrap().0);
-        t.same((ours, says), (Ok(Instruction::Error), there), bytes.len(), || hex(bytes));
+        t.value((ours, says), (Ok(Instruction::Error), there), bytes.len(), || hex(bytes));
     };
     pop(&[0xB2, 0x80, 0x80, 0x80, 0x80, 0x10], Some(Instruction::DataPop(0x204)));
     pop(&[0xB2, 0x80, 0x80, 0x80, 0x80, 0x80, 0x00], None);
     pop(&[0xB2, 0xFF, 0xFE, 0xFF, 0xFF, 0x03], None);
     let table = |bytes, offset| (anrukfal::table_entry(Section { bytes, address: 0x1000 }, offset), original::table_entry(bytes, offset as usize));
-    t.same(table(&[], 0), (Err(Refusal::Truncated), None), 0, || "an empty table".into());
-    t.same(table(&[0, 0, 0, 0x80], 2), (Err(Refusal::Place), Some(Err(Refusal::Place))), 4, || "offset 2".into());
+    t.value(table(&[], 0), (Err(Refusal::Truncated), None), 0, || "an empty table".into());
+    t.value(table(&[0, 0, 0, 0x80], 2), (Err(Refusal::Place), Some(Err(Refusal::Place))), 4, || "offset 2".into());
     let mut pointer = |data: &[u8], encoding, there| {
         let both = (anrukfal::pointer(data, 0, encoding), original::pointer(data, 0, encoding));
-        t.same(both, (Err(Refusal::Value), there), data.len(), || hex(data));
+        t.value(both, (Err(Refusal::Value), there), data.len(), || hex(data));
     };
     pointer(&[0x80, 0x80, 0x80, 0x80, 0x80, 0x00], 0x01, Ok((0, 6)));
     pointer(&[0x80, 0x80, 0x80, 0x80, 0x80], 0x01, Err(Refusal::Truncated));
@@ -49,7 +45,7 @@ fn listed(arenas: &mut [Arena]) -> Tally {
     let mut site = |data: &[u8], at: usize, function, here, there| {
         let data = top.put(data, at);
         let both = (anrukfal::call_site(data, function, 0), original::call_site(data, function, 0));
-        t.same(both, (Err(here), there), data.len(), || format!("{} at {:x}", hex(data), address(data)));
+        t.value(both, (Err(here), there), data.len(), || format!("{} at {:x}", hex(data), address(data)));
     };
     site(&[0xFF, 0xFF, 0x01, 0x04, 0x01, 0x00, 0x00, 0x00], 0, u32::MAX, Refusal::Sum, None);
     site(&[0xFF, 0xFF, 0x01, 0x01], end - 5, 0x1000, Refusal::Truncated, None);
@@ -68,12 +64,12 @@ fn prel31(arenas: &mut [Arena]) -> Tally {
     }
     for &word in &near {
         for &place in &near {
-            t.same(anrukfal::prel31(word, place), original::target_at(word, place), 8, || format!("{word:x} at {place:x}"));
+            t.value(anrukfal::prel31(word, place), original::target_at(word, place), 8, || format!("{word:x} at {place:x}"));
         }
     }
     for _ in 0..2_000_000 {
         let (word, place) = (cases::word(&mut r), r.word());
-        t.same(anrukfal::prel31(word, place), original::target_at(word, place), 8, || format!("{word:x} at {place:x}"));
+        t.value(anrukfal::prel31(word, place), original::target_at(word, place), 8, || format!("{word:x} at {place:x}"));
     }
     // Where the word really lies.
     for _ in 0..500_000 {
@@ -83,20 +79,20 @@ fn prel31(arenas: &mut [Arena]) -> Tally {
         let bytes = arenas[arena].put(&word.to_le_bytes(), at);
         let there = original::target(bytes.first_chunk().unwrap());
         let place = address(bytes);
-        t.same(anrukfal::prel31(word, place), there, 8, || format!("{word:x} at {place:x}"));
+        t.value(anrukfal::prel31(word, place), there, 8, || format!("{word:x} at {place:x}"));
     }
     t
 }
 
 // ---- instructions
 
-/// Item by item to the end, or to where the two part.
-fn list(t: &mut Tally, words: &[u8], skip: usize) {
+/// Item by item, as `ask` says them, to the end, or to where the two part.
+pub fn list(t: &mut Tally, words: &[u8], skip: usize, ask: impl Fn(u32) -> Answer<Option<(Instruction, u32)>>) {
     let mut walk = Walk::over(words, skip).unwrap();
     let show = || format!("words {} from {skip}", hex(words));
     loop {
         let at = walk.position();
-        let ours = anrukfal::instruction(words, at as u32);
+        let ours = ask(at as u32);
         if at < words.len() && words[at / 4 * 4 + 3 - at % 4] == 0xB2 {
             if let Some(why) = parted::long_pop(words, at + 1) {
                 t.left_out(why, ours, Ok(Some((Instruction::Error, words.len() as u32))), words.len(), show);
@@ -104,6 +100,7 @@ fn list(t: &mut Tally, words: &[u8], skip: usize) {
             }
         }
         let theirs = original::next(&mut walk);
+        t.number(number(&ours));
         t.same(Some(ours), theirs.map(Ok), words.len(), show);
         if ours == Ok(None) || ours.is_err() || theirs.is_none() {
             return;
@@ -113,6 +110,7 @@ fn list(t: &mut Tally, words: &[u8], skip: usize) {
 
 fn instructions() -> Tally {
     let mut t = Tally::new("instructions");
+    let list = |t: &mut Tally, words: &[u8], skip| list(t, words, skip, |at| anrukfal::instruction(words, at));
     for n in 1..=3usize {
         for k in 0..1u32 << (8 * n) {
             list(&mut t, &cases_words(k, n), 4 - n);
@@ -141,11 +139,12 @@ fn cases_words(k: u32, n: usize) -> [u8; 4] {
 
 // ---- entries
 
-fn index_case(t: &mut Tally, index: &[u8], number: usize) {
+fn index_case(t: &mut Tally, index: &[u8], entry: usize) {
     let section = Section { bytes: index, address: address(index) };
-    let there = original::index_entry(index, number);
-    t.same(anrukfal::index_entry(section, number as u32), there, index.len(), || {
-        format!("entry {number} of {} at {:x}", hex(index), address(index))
+    let there = original::index_entry(index, entry);
+    t.number(number(&there));
+    t.same(anrukfal::index_entry(section, entry as u32), there, index.len(), || {
+        format!("entry {entry} of {} at {:x}", hex(index), address(index))
     });
 }
 
@@ -185,7 +184,10 @@ fn table_case(t: &mut Tally, table: &[u8], offset: usize) {
     let ours = anrukfal::table_entry(Section { bytes: table, address: address(table) }, offset as u32);
     let show = || format!("offset {offset} of {} at {:x}", hex(table), address(table));
     match original::table_entry(table, offset) {
-        Some(there) => t.same(ours, there, table.len(), show),
+        Some(there) => {
+            t.number(number(&there));
+            t.same(ours, there, table.len(), show)
+        }
         None => t.left_out(Why::PastTable, ours, Err(Refusal::Truncated), table.len(), show),
     }
 }
@@ -239,6 +241,7 @@ fn pointer_case(t: &mut Tally, data: &[u8], at: usize, encoding: u8) {
     match parted::pointer(data, at, encoding) {
         Ok(there) => {
             let there: Answer<Read> = there.map(|(value, next)| Read { value, next: next as u32 });
+            t.number(number(&there));
             t.same(ours, there, data.len(), show)
         }
         Err(why) => t.left_out(why, ours, Err(why.here().unwrap()), data.len(), show),
@@ -299,7 +302,10 @@ fn language_case(t: &mut Tally, data: &[u8], function: u32, most: usize, r: &mut
         let ours = anrukfal::call_site(data, function, counter);
         let show = || format!("function {function:x} counter {counter:x} data {} at {:x}", hex(data), address(data));
         match sites.parted(counter) {
-            None => t.same(Some(ours), original::call_site(data, function, counter), data.len(), show),
+            None => {
+                t.number(number(&ours));
+                t.same(Some(ours), original::call_site(data, function, counter), data.len(), show)
+            }
             Some(why) => {
                 let paper = plain::call_site(data, function, counter);
                 t.left_out(why, ours, why.here().map_or(paper, Err), data.len(), show);

@@ -1,9 +1,11 @@
-//! oracle: compares the library with the Rust and with a plain reading of the paper. `oracle record FOLDER` writes the Rust's answers.
-#[cfg(feature = "all")]
+//! oracle: compares the library with the Rust and with a plain reading of the paper. `oracle record FOLDER` writes the Rust's answers, `oracle floors` the lines of floors.rs.
 mod agree;
+mod agree_readers;
 mod compare;
+mod compare_readers;
 mod record;
 use oracle::parted::Why;
+use oracle::tally::Tally;
 use std::path::Path;
 use std::process::ExitCode;
 
@@ -21,13 +23,18 @@ fn main() -> ExitCode {
         record::to(Path::new(folder)).unwrap();
         return ExitCode::SUCCESS;
     }
-    let mut good = compare::all();
-    #[cfg(feature = "all")]
-    {
-        good &= agree::all(3_000_000);
+    let (rust, plain) = (compare::all(), agree::all(3_000_000));
+    if std::env::args().nth(1).as_deref() == Some("floors") {
+        rust.iter().chain(&plain).for_each(|t| println!("{}", t.floors()));
+        return ExitCode::SUCCESS;
     }
-    match good {
-        true => ExitCode::SUCCESS,
-        false => ExitCode::FAILURE,
-    }
+    let good = report(&rust, "the Rust") & report(&plain, "a plain reading");
+    if good { ExitCode::SUCCESS } else { ExitCode::FAILURE }
+}
+
+fn report(tallies: &[Tally], with: &str) -> bool {
+    let good = tallies.iter().fold(true, |good, t| t.report() & good);
+    let compared: u64 = tallies.iter().map(|t| t.compared).sum();
+    println!("{:>24}: {compared:>11} compared with {with}", "all");
+    good
 }

@@ -42,6 +42,11 @@ impl Arena {
         self.len
     }
 
+    /// The address of an offset.
+    pub fn address(&self, offset: usize) -> u32 {
+        (self.start + offset) as u32
+    }
+
     /// Copies the bytes to an offset and lends them there.
     pub fn put(&mut self, bytes: &[u8], offset: usize) -> &[u8] {
         assert!(offset + bytes.len() <= self.len);

@@ -1,6 +1,7 @@
 //! The Rust's own answers. None: it panicked.
 use crate::anrukfal::{Answer, CallSite, Content, IndexEntry, Instruction, Personality, Refusal, Span, TableEntry};
-use crate::unwind::unw_lsda::{self, LSDA};
+use crate::readers::{Header, Site};
+use crate::unwind::unw_lsda::{self, probe::Sites, LSDA};
 use crate::unwind::unw_table::probe::{self, Walk};
 use crate::unwind::unw_table::{ExTabEntry, PersonalityType, Prel31, UnwindInstruction};
 use gimli::{Error, LittleEndian};
@@ -67,12 +68,20 @@ pub fn index_entry(index: &[u8], number: usize) -> Answer<IndexEntry> {
         Err("ExIdxEntry::from_bytes: corrupted entry.") => return Err(Refusal::Corrupt),
         Err(other) => unreachable!("{other}"),
     };
-    let content = match content {
+    Ok(IndexEntry { function, content: content_of(content, index) })
+}
+
+fn content_of(content: probe::Content, index: &[u8]) -> Content {
+    match content {
         probe::Content::Table(address) => Content::Table(address),
         probe::Content::Compact(p, walk) => Content::Compact { selector: compact(p), span: span(&walk, index) },
         probe::Content::CantUnwind => Content::CannotUnwind,
-    };
-    Ok(IndexEntry { function, content })
+    }
+}
+
+/// The content of an entry where it lies, whatever its function word is.
+pub fn content(index: &[u8], number: usize) -> Content {
+    content_of(probe::content(index[8 * number + 4..].first_chunk().unwrap()), index)
 }
 
 /// An entry of a table where it lies.
@@ -113,6 +122,21 @@ pub fn call_site(data: &[u8], function: u32, counter: u32) -> Option<Answer<Call
         let site = LSDA::new(data, LittleEndian, function).call_site_table_entry_for_address(counter).map_err(refusal)?;
         let covered = site.range_of_covered_addresses();
         Ok(CallSite { start: covered.start, end: covered.end, pad: site.landing_pad_address(), action: site.action_offset() })
+    })
+}
+
+/// The header of language data.
+pub fn header(data: &[u8], function: u32) -> Answer<Header> {
+    let (base, encoding, start, length) = unw_lsda::probe::header(data, function).map_err(refusal)?;
+    Ok(Header { base, encoding, start: start as u32, end: start as u64 + length as u64 })
+}
+
+/// The next site of the iterator, with the position after it.
+pub fn next_site(sites: &mut Sites) -> Option<Answer<Option<(Site, u32)>>> {
+    caught(|| {
+        let Some((site, pad, action, next)) = sites.next().map_err(refusal)? else { return Ok(None) };
+        let covered = site.range_of_covered_addresses();
+        Ok(Some((Site { start: covered.start, end: covered.end, pad, action }, next as u32)))
     })
 }
 

@@ -3,6 +3,7 @@ use crate::anrukfal::{
     Answer, Bundle, CallSite, Content, Fault, Found, Image, IndexEntry, Instruction, Lookup, Personality, Read, Refusal, Registers,
     Section, Span, Stepped, TableEntry, Unwinding,
 };
+use crate::readers::{Entry, Header, Leads, Site, Walked};
 
 pub const LONGEST: usize = 65_536;
 
@@ -20,7 +21,19 @@ fn index_rule(s: Section) -> Answer<()> {
     rule(s)
 }
 
-fn word(bytes: &[u8], at: usize) -> Answer<u32> {
+/// The offset of an address in a section of `len` bytes.
+pub fn offset(section: u32, len: usize, address: u32) -> Answer<u32> {
+    match address.checked_sub(section) {
+        Some(offset) if (offset as usize) < len => Ok(offset),
+        _ => Err(Refusal::Place),
+    }
+}
+
+pub fn plus(a: u32, by: u32) -> Answer<u32> {
+    a.checked_add(by).ok_or(Refusal::Sum)
+}
+
+pub fn word(bytes: &[u8], at: usize) -> Answer<u32> {
     match bytes.get(at..) {
         Some([a, b, c, d, ..]) => Ok(u32::from_le_bytes([*a, *b, *c, *d])),
         _ => Err(Refusal::Truncated),
@@ -147,11 +160,43 @@ fn decode(words: &[u8], at: usize) -> Option<(Instruction, usize)> {
     Some(opcode(words, op, at).unwrap_or((Instruction::Error, words.len())))
 }
 
-pub fn instruction(words: &[u8], at: u32) -> Answer<Option<(Instruction, u32)>> {
+fn words_rule(words: &[u8]) -> Answer<()> {
     if words.len() % 4 != 0 || words.len() > LONGEST {
         return Err(Refusal::Section);
     }
+    Ok(())
+}
+
+pub fn instruction(words: &[u8], at: u32) -> Answer<Option<(Instruction, u32)>> {
+    words_rule(words)?;
     Ok(decode(words, at as usize).map(|(is, next)| (is, next as u32)))
+}
+
+pub fn byte(words: &[u8], at: u32) -> Answer<Option<u8>> {
+    words_rule(words)?;
+    Ok(instruction_byte(words, at as usize))
+}
+
+fn skip_rule(skip: u32) -> Answer<()> {
+    if skip > 2 {
+        return Err(Refusal::Section);
+    }
+    Ok(())
+}
+
+/// A walk that starts at a skip and has come to a position.
+pub fn walk_byte(words: &[u8], skip: u32, pos: u32) -> Answer<Walked<u8>> {
+    skip_rule(skip)?;
+    let is = byte(words, pos)?;
+    Ok((is, pos + is.is_some() as u32))
+}
+
+pub fn walk_instruction(words: &[u8], skip: u32, pos: u32) -> Answer<Walked<Instruction>> {
+    skip_rule(skip)?;
+    Ok(match instruction(words, pos)? {
+        Some((is, next)) => (Some(is), next),
+        None => (None, pos),
+    })
 }
 
 // ---- entries
@@ -176,13 +221,24 @@ fn content_of(index: Section, number: usize) -> Answer<Content> {
     })
 }
 
-pub fn index_entry(index: Section, number: u32) -> Answer<IndexEntry> {
+fn numbered(index: Section, number: u32) -> Answer<usize> {
     index_rule(index)?;
-    let number = number as usize;
-    if number >= index.bytes.len() / 8 {
+    if number as usize >= index.bytes.len() / 8 {
         return Err(Refusal::Truncated);
     }
-    Ok(IndexEntry { function: function_of(index, number)?, content: content_of(index, number)? })
+    Ok(number as usize)
+}
+
+pub fn function(index: Section, number: u32) -> Answer<u32> {
+    function_of(index, numbered(index, number)?)
+}
+
+pub fn content(index: Section, number: u32) -> Answer<Content> {
+    content_of(index, numbered(index, number)?)
+}
+
+pub fn index_entry(index: Section, number: u32) -> Answer<IndexEntry> {
+    Ok(IndexEntry { function: function(index, number)?, content: content(index, number)? })
 }
 
 fn table_entry_at(table: Section, offset: u32) -> Answer<TableEntry> {
@@ -217,81 +273,86 @@ pub fn table_entry(table: Section, offset: u32) -> Answer<TableEntry> {
 
 // ---- language data
 
-struct Header {
-    base: u32,
-    encoding: u8,
-    at: usize,
-    end: usize,
-}
-
-fn byte(data: &[u8], at: usize) -> Answer<u8> {
+fn data_byte(data: &[u8], at: usize) -> Answer<u8> {
     data.get(at).copied().ok_or(Refusal::Truncated)
 }
 
-fn header(data: &[u8], function: u32) -> Answer<Header> {
-    let (base, at) = match byte(data, 0)? {
+fn header_of(data: &[u8], function: u32) -> Answer<Header> {
+    let (base, at) = match data_byte(data, 0)? {
         0xFF => (function, 1),
         encoding => pointer_at(data, 1, encoding)?,
     };
-    let at = match byte(data, at)? {
+    let at = match data_byte(data, at)? {
         0xFF => at + 1,
         _ => uleb(data, at + 1)?.1,
     };
-    let encoding = byte(data, at)?;
+    let encoding = data_byte(data, at)?;
     let (length, at) = uleb(data, at + 1)?;
-    Ok(Header { base, encoding, at, end: at + length as usize })
+    Ok(Header { base, encoding, start: at as u32, end: at as u64 + length as u64 })
 }
 
-struct Site {
-    start: u32,
-    end: u32,
-    pad: u32,
-    action: u32,
+fn language_rule(data: &[u8]) -> Answer<()> {
+    if data.len() > LONGEST {
+        return Err(Refusal::Section);
+    }
+    Ok(())
 }
 
-fn site_at(data: &[u8], h: &Header) -> Answer<(Site, usize)> {
-    let (start, at) = pointer_at(data, h.at, h.encoding)?;
+pub fn header(data: &[u8], function: u32) -> Answer<Header> {
+    language_rule(data)?;
+    header_of(data, function)
+}
+
+fn site_of(data: &[u8], h: &Header, at: usize) -> Answer<(Site, usize)> {
+    let (start, at) = pointer_at(data, at, h.encoding)?;
     let (length, at) = pointer_at(data, at, h.encoding)?;
     let (pad, at) = pointer_at(data, at, h.encoding)?;
     let (action, at) = uleb(data, at)?;
-    let start = h.base.checked_add(start).ok_or(Refusal::Sum)?;
-    let end = start.checked_add(length).ok_or(Refusal::Sum)?;
+    let start = plus(h.base, start)?;
+    let end = plus(start, length)?;
     Ok((Site { start, end, pad, action }, at))
+}
+
+/// What stands at a position: nothing more at or past the table's end.
+pub fn site(data: &[u8], h: &Header, at: u32) -> Answer<Option<(Site, u32)>> {
+    language_rule(data)?;
+    if at as u64 >= h.end {
+        return Ok(None);
+    }
+    let (site, next) = site_of(data, h, at as usize)?;
+    Ok(Some((site, next as u32)))
 }
 
 fn settled(base: u32, site: &Site) -> Answer<CallSite> {
     let pad = match site.pad {
         0 => None,
-        pad => Some(base.checked_add(pad).ok_or(Refusal::Sum)?),
+        pad => Some(plus(base, pad)?),
     };
     let action = match site.action {
         0 => None,
-        action => Some(action.checked_add(1).ok_or(Refusal::Sum)?),
+        action => Some(plus(action, 1)?),
     };
     Ok(CallSite { start: site.start, end: site.end, pad, action })
 }
 
 pub fn call_site(data: &[u8], function: u32, counter: u32) -> Answer<CallSite> {
-    if data.len() > LONGEST {
-        return Err(Refusal::Section);
-    }
-    let mut h = header(data, function)?;
-    while h.at < h.end {
-        let (site, next) = site_at(data, &h)?;
-        if (site.start..site.end).contains(&counter) {
-            return settled(h.base, &site);
+    let h = header(data, function)?;
+    let mut at = h.start;
+    while let Some((is, next)) = site(data, &h, at)? {
+        if (is.start..is.end).contains(&counter) {
+            return settled(h.base, &is);
         }
-        h.at = next;
+        at = next;
     }
     Err(Refusal::NoSite)
 }
 
 fn audit_sites(data: &[u8], function: u32) -> Answer<()> {
-    let mut h = header(data, function)?;
-    while h.at < h.end {
-        let (site, next) = site_at(data, &h)?;
-        settled(h.base, &site)?;
-        h.at = next;
+    let h = header(data, function)?;
+    let mut at = h.start;
+    while let Some((is, next)) = site(data, &h, at)? {
+        settled(h.base, &is)?;
+        at = next;
     }
     Ok(())
 }
@@ -321,58 +382,54 @@ pub fn search(index: Section, counter: u32) -> Answer<Found> {
     find(index, counter)
 }
 
-/// What an entry leads to.
-enum Entry<'a> {
-    CannotUnwind,
-    Compact { selector: u32, words: &'a [u8], skip: u32 },
-    Table { personality: Personality, words: &'a [u8], skip: u32, language: &'a [u8] },
-}
-
-fn words_of(bytes: &[u8], span: Span) -> &[u8] {
-    let at = span.offset as usize;
-    &bytes[at..at + 4 * span.words as usize]
-}
-
-fn entry_at<'a>(image: &Image<'a>, number: usize) -> Answer<(u32, Entry<'a>)> {
+fn entry_of(image: &Image, number: usize) -> Answer<Entry> {
     let function = function_of(image.index, number)?;
-    let entry = match content_of(image.index, number)? {
-        Content::CannotUnwind => Entry::CannotUnwind,
-        Content::Compact { selector, span } => {
-            Entry::Compact { selector, words: words_of(image.index.bytes, span), skip: span.skip }
-        }
+    let leads = match content_of(image.index, number)? {
+        Content::CannotUnwind => Leads::CannotUnwind,
+        Content::Compact { selector, span } => Leads::CompactInIndex(selector, span),
         Content::Table(address) => {
             let table = image.table;
-            let offset = address.checked_sub(table.address).ok_or(Refusal::Place)?;
-            if offset as usize >= table.bytes.len() {
-                return Err(Refusal::Place);
-            }
-            let entry = table_entry_at(table, offset)?;
-            Entry::Table {
-                personality: entry.personality,
-                words: words_of(table.bytes, entry.span),
-                skip: entry.span.skip,
-                language: &table.bytes[entry.language as usize..],
+            let entry = table_entry_at(table, offset(table.address, table.bytes.len(), address)?)?;
+            match entry.personality {
+                Personality::Compact(selector) => Leads::CompactInTable(selector, entry.span),
+                Personality::Generic(who) => Leads::Generic(who, entry.span, entry.language),
             }
         }
     };
-    Ok((function, entry))
+    Ok(Entry { function, leads })
 }
 
-fn image_rule(image: &Image) -> Answer<()> {
+/// The words that an entry leads to, and their skip; none where it cannot unwind.
+fn words_of<'a>(image: &Image<'a>, leads: Leads) -> Option<(&'a [u8], u32)> {
+    let (bytes, span) = match leads {
+        Leads::CannotUnwind => return None,
+        Leads::CompactInIndex(_, span) => (image.index.bytes, span),
+        Leads::CompactInTable(_, span) | Leads::Generic(_, span, _) => (image.table.bytes, span),
+    };
+    let at = span.offset as usize;
+    Some((&bytes[at..at + 4 * span.words as usize], span.skip))
+}
+
+pub fn sections(image: &Image) -> Answer<()> {
     index_rule(image.index)?;
     rule(image.table)
 }
 
+pub fn entry(image: &Image, number: u32) -> Answer<Entry> {
+    sections(image)?;
+    entry_of(image, numbered(image.index, number)?)
+}
+
 pub fn lookup(image: &Image, counter: u32) -> Answer<Lookup> {
-    image_rule(image)?;
+    sections(image)?;
     let found = find(image.index, counter)?;
-    let (function, entry) = entry_at(image, found.entry as usize)?;
-    let unwinding = match entry {
-        Entry::CannotUnwind => Unwinding::CannotUnwind,
-        Entry::Compact { selector, .. } => Unwinding::CompactInIndex(selector),
-        Entry::Table { personality: Personality::Compact(selector), .. } => Unwinding::CompactInTable(selector),
-        Entry::Table { personality: Personality::Generic(who), language, .. } => {
-            Unwinding::Generic(who, call_site(language, function, counter)?)
+    let Entry { function, leads } = entry_of(image, found.entry as usize)?;
+    let unwinding = match leads {
+        Leads::CannotUnwind => Unwinding::CannotUnwind,
+        Leads::CompactInIndex(selector, _) => Unwinding::CompactInIndex(selector),
+        Leads::CompactInTable(selector, _) => Unwinding::CompactInTable(selector),
+        Leads::Generic(who, _, language) => {
+            Unwinding::Generic(who, call_site(&image.table.bytes[language as usize..], function, counter)?)
         }
     };
     Ok(Lookup { entry: found.entry, function, unwinding })
@@ -441,13 +498,11 @@ fn run(words: &[u8], skip: u32, stack: Section, r: &mut Registers) -> Answer<u32
 }
 
 pub fn step(image: &Image, stack: Section, registers: &mut Registers) -> Answer<Stepped> {
-    image_rule(image)?;
+    sections(image)?;
     rule(stack)?;
     let found = find(image.index, registers.core[15])?;
-    let (words, skip) = match entry_at(image, found.entry as usize)?.1 {
-        Entry::CannotUnwind => return Ok(Stepped::CannotUnwind),
-        Entry::Compact { words, skip, .. } | Entry::Table { words, skip, .. } => (words, skip),
-    };
+    let leads = entry_of(image, found.entry as usize)?.leads;
+    let Some((words, skip)) = words_of(image, leads) else { return Ok(Stepped::CannotUnwind) };
     let mut after = *registers;
     let count = run(words, skip, stack, &mut after)?;
     *registers = after;
@@ -476,21 +531,18 @@ fn audit_entry(image: &Image, number: usize, before: Option<u32>) -> Answer<u32>
     if before.is_some_and(|last| function <= last) {
         return Err(Refusal::Unsorted);
     }
-    match entry_at(image, number)?.1 {
-        Entry::CannotUnwind => {}
-        Entry::Compact { words, skip, .. } => audit_instructions(words, skip)?,
-        Entry::Table { personality, words, skip, language } => {
-            audit_instructions(words, skip)?;
-            if let Personality::Generic(_) = personality {
-                audit_sites(language, function)?;
-            }
-        }
+    let leads = entry_of(image, number)?.leads;
+    if let Some((words, skip)) = words_of(image, leads) {
+        audit_instructions(words, skip)?;
+    }
+    if let Leads::Generic(_, _, language) = leads {
+        audit_sites(&image.table.bytes[language as usize..], function)?;
     }
     Ok(function)
 }
 
 pub fn audit(image: &Image) -> Result<(), Fault> {
-    image_rule(image).map_err(|refusal| Fault { refusal, entry: 0 })?;
+    sections(image).map_err(|refusal| Fault { refusal, entry: 0 })?;
     let mut before = None;
     for number in 0..image.index.bytes.len() / 8 {
         let function = audit_entry(image, number, before).map_err(|refusal| Fault { refusal, entry: number as u32 })?;

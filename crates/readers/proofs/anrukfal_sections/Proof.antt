@@ -1,5 +1,5 @@
 -- The number is that of the test. Assumes nothing.
-use mathlib.Core.Path.{refl, sym, _∙_}
+use mathlib.Core.Path.{sym, _∙_}
 use borrow.Author.Needs.{needs}
 use Rattle.readers.proofs.anrukfal_sections.Statement.{statement}
 use Rattle.readers.proofs.anrukfal_sections.Tie as tie
