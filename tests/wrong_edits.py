@@ -15,7 +15,7 @@ import sys
 import tempfile
 import time
 
-CRATES = "section pointer instruction entry lsda image search lookup step audit walker bundle audit_image anrukfal".split()
+CRATES = "section pointer instruction entry lsda image search lookup step audit walker bundle audit_image anrukfal readers".split()
 OTHER = {"<=": "<", "<": "<=", "==": "!=", "!=": "==", "+": "-", "-": "+", "*": "+", "/": "%", "%": "/"}
 # lines whose edits may be accepted: a constant that only the crates above use, a buffer that may be larger, and what a buffer holds before it is written
 MAY_DIFFER = ("pub const WORDS_MOST", "const MOST", "bytes: [0; ROOM]")
