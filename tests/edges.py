@@ -259,6 +259,10 @@ def steps():
     frame(("table", 0), big, {13: STACK_AT}, table=in_table(*([0x00] * 40 + [0x84, 0x08])))
     frame(("table", 0), zeros(65536), {13: STACK_AT}, table=in_table(0xA8))
     frame(("table", 0), zeros(65537), {13: STACK_AT}, table=in_table(0xA8))
+    note("D31 popped, and then a refusal of each kind, or none: all 32 VFP registers come back as they were, or as they were popped")
+    for pop in ((0xC8, 0x0F), (0xC8, 0xF0), (0xC9, 0x0F, 0xC8, 0x0F)):
+        for after in ((0x80, 0x00), (0x9D,), (0xB1, 0x10), (0xB3, 0x00), (0x00,) * 3 + (0x80,), (0xC8, 0xF1), (0xA8,), (0xC8, 0xF0), (0x42, 0xC8, 0xF0)):
+            frame(("table", 0), big[:128 if len(pop) == 2 else 256], {13: STACK_AT, 14: 0x08000123}, table=in_table(*pop, *after))
 
 
 def audits():
