@@ -6,11 +6,11 @@ use native.Mathlib.Omega.{arith}
 use lib.ListN.{length, take}
 use lib.Seq.{length-take-le, take-all}
 use Rattle.audit_image.specs.Line.{written}
-use Rattle.audit_image.specs.Input.{Read, LineOfInput}
+use Rattle.audit_image.specs.Input.{Received, LineOfInput}
 use Rattle.audit_image.specs.declared.line.Line.{Line}
 
-read-itself : (buffer : List ℕ) (n : ℕ) → n ≤ length buffer → Read buffer n (take n buffer)
-read-itself buffer n h = let e = length-take-le n buffer h in sym (take-all (length buffer) (take n buffer) (omega arith))
+received-itself : (buffer : List ℕ) (n : ℕ) → n ≤ length buffer → Received buffer n (take n buffer)
+received-itself buffer n h = let e = length-take-le n buffer h in sym (take-all (length buffer) (take n buffer) (omega arith))
 
-pub line-one : (buffer : List ℕ) (n : ℕ) → n ≤ length buffer → (l m : Line) → LineOfInput buffer n l → LineOfInput buffer n m → written l ≡ written m
-line-one buffer n h l m p q = p (take n buffer) (read-itself buffer n h) ∙ sym (q (take n buffer) (read-itself buffer n h))
+pub line-one : (buffer : List ℕ) (n fill : ℕ) → n ≤ length buffer → (l m : Line) → LineOfInput buffer n fill l → LineOfInput buffer n fill m → written l ≡ written m
+line-one buffer n fill h l m p q = p (take n buffer) (received-itself buffer n h) ∙ sym (q (take n buffer) (received-itself buffer n h))

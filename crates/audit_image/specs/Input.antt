@@ -8,9 +8,9 @@ use Rattle.audit_image.specs.Line.{lineOf, written}
 use Rattle.audit_image.specs.declared.line.Line.{Line}
 
 -- the first n bytes of the buffer are the input's first: all of them, or as many as the buffer holds
-abbrev pub Read : List ℕ → ℕ → List ℕ → Type 0
-Read buffer n input = take n buffer ≡ take (length buffer) input
+abbrev pub Received : List ℕ → ℕ → List ℕ → Type 0
+Received buffer n input = take n buffer ≡ take (length buffer) input
 
--- whatever the input was, the line is its own
-abbrev pub LineOfInput : List ℕ → ℕ → Line → Type 0
-LineOfInput buffer n l = (input : List ℕ) → Read buffer n input → written l ≡ lineOf (auditBundleOf input)
+-- whatever the input was, the line is its own, with so many bytes at the table's end that only fill its last word
+abbrev pub LineOfInput : List ℕ → ℕ → ℕ → Line → Type 0
+LineOfInput buffer n fill l = (input : List ℕ) → Received buffer n input → written l ≡ lineOf (auditBundleOf input fill)

@@ -68,20 +68,20 @@ module _ (xs : List ℕ) (k : ℕ) (more : mostBytes < k) (long : k ≤ length x
       (λ t. let g = eqb-false n 2 t in
       bundle-first (take k xs) n q g ∙ sym (bundle-first xs n p g))
 
-  audit-same-long : auditBundleOf (take k xs) ≡ auditBundleOf xs
-  audit-same-long = go (bundleOf xs) refl (bundle-gives xs)
+  audit-same-long : (fill : ℕ) → auditBundleOf (take k xs) fill ≡ auditBundleOf xs fill
+  audit-same-long fill = go (bundleOf xs) refl (bundle-gives xs)
     where
-      both : (r : Refusal) → bundleOf xs ≡ BundleRead.Refused r → auditBundleOf (take k xs) ≡ auditBundleOf xs
-      both r e = audit-refused (take k xs) r (bundle-same ∙ e) ∙ sym (audit-refused xs r e)
+      both : (r : Refusal) → bundleOf xs ≡ BundleRead.Refused r → auditBundleOf (take k xs) fill ≡ auditBundleOf xs fill
+      both r e = audit-refused (take k xs) fill r (bundle-same ∙ e) ∙ sym (audit-refused xs fill r e)
 
-      go : (x : BundleRead) → bundleOf xs ≡ x → BundleGives (length xs) x → auditBundleOf (take k xs) ≡ auditBundleOf xs
+      go : (x : BundleRead) → bundleOf xs ≡ x → BundleGives (length xs) x → auditBundleOf (take k xs) fill ≡ auditBundleOf xs fill
       go x e (BundleGives.is p) = absurd (omega (arith, p .whole, p .index-section .section .short, p .table-section .short))
       go x e BundleGives.bundle = both Refusal.Bundle e
       go x e BundleGives.section = both Refusal.Section e
 
--- what k bytes of an input say of it
-pub audit-same : (xs : List ℕ) (k : ℕ) → mostBytes < k → auditBundleOf (take k xs) ≡ auditBundleOf xs
-audit-same xs k more =
+-- what k bytes of an input say of it, whatever its fill
+pub audit-same : (xs : List ℕ) (k fill : ℕ) → mostBytes < k → auditBundleOf (take k xs) fill ≡ auditBundleOf xs fill
+audit-same xs k fill more =
     by-test (leb k (length xs))
-    (λ t. audit-same-long xs k more (leb-true k (length xs) t))
-    (λ t. let g = leb-false k (length xs) t in ap auditBundleOf (take-all k xs (omega arith)))
+    (λ t. audit-same-long xs k more (leb-true k (length xs) t) fill)
+    (λ t. let g = leb-false k (length xs) t in ap (λ (l : List ℕ). auditBundleOf l fill) (take-all k xs (omega arith)))

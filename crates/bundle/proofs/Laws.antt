@@ -1,16 +1,20 @@
 -- Laws of reading a bundle: one for each way to an answer. Assumes nothing.
-use Prim.Native.Nat.{ℕ, _+_, _*_, _/_, _≤_, _<_}
-use mathlib.Core.Path.{_≡_, sym}
+use Prim.Native.Nat.{ℕ, _+_, _-_, _*_, _/_, _≤_, _<_}
+use mathlib.Core.Path.{_≡_, refl, sym}
+use mathlib.Core.Logic.{_↔_}
 use mathlib.Core.List.{List}
 use native.Mathlib.Omega.{arith}
 use lib.ListN.{length}
 use lib.Dec.{leb}
 use borrow.Author.Tests.{le-leb, lt-leb, leb-true, leb-false, eq-eqb, ne-eqb}
+use Rattle.section.specs.Check.{onCheck}
 use Rattle.section.specs.Place.{addr}
 use Rattle.section.specs.Word.{wordAt}
 use Rattle.section.specs.declared.Addr.{Addr}
 use Rattle.section.specs.declared.Refusal.{Refusal}
 use Rattle.section.specs.declared.Word.the-variants.{At, Short}
+use Rattle.section.specs.declared.Check.{Check}
+use Rattle.section.proofs.Checks.{need-le, and-exact}
 use Rattle.section.proofs.Picks.{by-test}
 use Rattle.section.proofs.Words.{word-here, word-out}
 use Rattle.bundle.specs.Bundle.{mostEntries, mostWords, laidOf, fromWords, fromEntries, bundleOf}
@@ -18,7 +22,7 @@ use Rattle.section.specs.View.{bytesOf}
 use Rattle.image.specs.Image.{image}
 use Rattle.audit.specs.Audit.{auditOf}
 use Rattle.audit.specs.declared.Verdict.{Verdict}
-use Rattle.bundle.specs.Audit.{reportedOf, auditBundleOf}
+use Rattle.bundle.specs.Audit.{fillRule, imageIn, reportedOf, onBundle, auditBundleOf}
 use Rattle.bundle.specs.declared.Bundle.{Bundle}
 use Rattle.bundle.specs.declared.BundleRead.{BundleRead}
 use Rattle.bundle.specs.declared.Report.{Report}
@@ -91,13 +95,43 @@ module _ (xs : List ℕ) where
         rw (e, eq-eqb first 2 d, le-leb 12 (length xs) (h .0), ← (word-here xs 4 i f .1), ← (h .1))
 
 -- ---- the audit of a bundle
-module _ (xs : List ℕ) where
-  pub audit-refused : (r : Refusal) → bundleOf xs ≡ BundleRead.Refused r → auditBundleOf xs ≡ Report.Fault r
+pub fill-exact : (fill len : ℕ) → (fillRule fill len ≡ Check.Fine) ↔ ((fill ≤ 3) × (fill ≤ len))
+unfolding fillRule
+fill-exact fill len = and-exact _ _ (need-le fill 3 Refusal.Bundle) (need-le fill len Refusal.Bundle)
+
+pub fill-many : (fill len : ℕ) → 3 < fill → fillRule fill len ≡ Check.Fault Refusal.Bundle
+unfolding fillRule
+fill-many fill len h = rw (lt-leb fill 3 h)
+
+pub fill-over : (fill len : ℕ) → fill ≤ 3 → len < fill → fillRule fill len ≡ Check.Fault Refusal.Bundle
+unfolding fillRule
+fill-over fill len h g = rw (le-leb fill 3 h, lt-leb fill len g)
+
+module _ (xs : List ℕ) (fill : ℕ) where
+  pub audit-refused : (r : Refusal) → bundleOf xs ≡ BundleRead.Refused r → auditBundleOf xs fill ≡ Report.Fault r
   unfolding auditBundleOf
   audit-refused r e = rw e
 
-  -- the sections, v is the verdict on them
-  pub audit-read : (b : Bundle) → bundleOf xs ≡ BundleRead.Is b → (is ts : List ℕ) → is ≡ bytesOf xs (b .index .0, b .«index_bytes») → ts ≡ bytesOf xs (b .table .0, b .«table_bytes»)
-      → (v : Verdict) → v ≡ auditOf (image is (b .«index_address») ts (b .«table_address»)) → auditBundleOf xs ≡ reportedOf (b .«index_bytes» / 8) v
-  unfolding auditBundleOf
-  audit-read b e is ts p q v h = rw (e, h, p, q)
+  module _ (b : Bundle) (e : bundleOf xs ≡ BundleRead.Is b) where
+    pub audit-filled : (r : Refusal) → fillRule fill (b .«table_bytes») ≡ Check.Fault r → auditBundleOf xs fill ≡ Report.Fault r
+    unfolding auditBundleOf
+    audit-filled r f = rw (e, f)
+
+    -- the sections, v is the verdict on them
+    pub audit-read : fillRule fill (b .«table_bytes») ≡ Check.Fine → (is ts : List ℕ) → is ≡ bytesOf xs (b .index .0, b .«index_bytes») → ts ≡ bytesOf xs (b .table .0, b .«table_bytes» - fill)
+        → (v : Verdict) → v ≡ auditOf (image is (b .«index_address») ts (b .«table_address»)) → auditBundleOf xs fill ≡ reportedOf (b .«index_bytes» / 8) v
+    unfolding auditBundleOf
+    audit-read f is ts p q v h = rw (e, f, h, p, q)
+
+-- without a fill it is the paper's: the whole table
+pub audit-unfilled : (xs : List ℕ)
+    → auditBundleOf xs 0 ≡ onBundle (bundleOf xs) (λ b. reportedOf (b .«index_bytes» / 8) (auditOf (image (bytesOf xs (b .index .0, b .«index_bytes»)) (b .«index_address») (bytesOf xs (b .table .0, b .«table_bytes»)) (b .«table_address»))))
+unfolding auditBundleOf
+audit-unfilled xs = go (bundleOf xs)
+  where
+    go : (x : BundleRead) → onBundle x (λ b. onCheck (fillRule 0 (b .«table_bytes»)) (reportedOf (b .«index_bytes» / 8) (auditOf (imageIn xs 0 b))) Report.Fault)
+        ≡ onBundle x (λ b. reportedOf (b .«index_bytes» / 8) (auditOf (image (bytesOf xs (b .index .0, b .«index_bytes»)) (b .«index_address») (bytesOf xs (b .table .0, b .«table_bytes»)) (b .«table_address»))))
+    go (BundleRead.Is b) =
+        let z : b .«table_bytes» - 0 ≡ b .«table_bytes» = omega arith in
+        rw (fill-exact 0 (b .«table_bytes») .1 (omega arith, omega arith), z) refl
+    go (BundleRead.Refused r) = refl

@@ -1,4 +1,5 @@
 pub mod Bundle
 pub mod Read
 pub mod Audit
+pub mod Promise
 pub mod Answers

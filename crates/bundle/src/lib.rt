@@ -1,9 +1,14 @@
 // A bundle: two addresses, the index and the table, each section after its count.
 ghost use mathlib.Core.Path.{_≡_};
-ghost use Rattle.bundle.specs.Audit.{reportedOf, auditBundleOf};
+ghost use mathlib.Core.Logic.{_↔_};
+ghost use Prim.Native.Nat.{ℕ};
+ghost use Rattle.section.specs.declared.Refusal.{Refusal};
+ghost use Rattle.bundle.specs.Audit.{fillRule, reportedOf, auditBundleOf};
 ghost use Rattle.bundle.specs.Bundle.{bundleOf};
+ghost use Rattle.bundle.specs.Promise.{SoundBundle, BundlePromise, EntryFault};
 use audit::Verdict;
 use section::Addr;
+use section::Check;
 use section::Off;
 use section::Refusal;
 use section::Word;
@@ -63,17 +68,40 @@ fn reported(entries: u32, verdict: Verdict) -> Report
     }
 }
 
-// Reads a bundle and audits its image.
-pub fn audit_bundle(bytes: &[u8]) -> Report
-    ensures { λ r. ⌜ r ≡ auditBundleOf (now (bytes .entry)) ⌝ }
+// Whether the last `fill` bytes of a table can only fill its last word.
+fn fill_rule(fill: u32, table_bytes: u32) -> Check
+    ensures { λ r. ⌜ r ≡ fillRule fill «table_bytes» ⌝ }
+{
+    if 3 < fill {
+        return Check::Fault(Refusal::Bundle);
+    }
+    if table_bytes < fill {
+        return Check::Fault(Refusal::Bundle);
+    }
+    Check::Fine
+}
+
+// Reads a bundle and audits its image, whose table ends before the bundle's last `fill` bytes.
+pub fn audit_bundle(bytes: &[u8], fill: u32) -> Report
+    ensures answer { λ r. ⌜ r ≡ auditBundleOf (now (bytes .entry)) fill ⌝ }
+    ensures passes_exactly { λ r. ⌜ ((n : ℕ) → (r ≡ Report.Passed n) ↔ SoundBundle (now (bytes .entry)) fill n) ⌝ }
+    ensures demand_three { λ r. ⌜ ((n : ℕ) → r ≡ Report.Passed n → BundlePromise (now (bytes .entry)) fill) ⌝ }
+    ensures entry_fault { λ r. ⌜ ((f : Refusal) (k : ℕ) → r ≡ Report.Entry f k → EntryFault (now (bytes .entry)) fill f k) ⌝ }
 {
     match read_bundle(bytes) {
         BundleRead::Refused(r) => Report::Fault(r),
-        BundleRead::Is(b) => {
-            let index = section::part(bytes, b.index.0 as usize, b.index_bytes as usize);
-            let table = section::part(bytes, b.table.0 as usize, b.table_bytes as usize);
-            let verdict = audit::audit(index, b.index_address, table, b.table_address);
-            reported(b.index_bytes / 8, verdict)
-        }
+        BundleRead::Is(b) => match fill_rule(fill, b.table_bytes) {
+            Check::Fault(r) => Report::Fault(r),
+            Check::Fine => {
+                let index = section::part(bytes, b.index.0 as usize, b.index_bytes as usize);
+                let table = section::part(
+                    bytes,
+                    b.table.0 as usize,
+                    (b.table_bytes - fill) as usize,
+                );
+                let verdict = audit::audit(index, b.index_address, table, b.table_address);
+                reported(b.index_bytes / 8, verdict)
+            }
+        },
     }
 }

@@ -1,4 +1,6 @@
 -- The report is that of the bytes that were read, which say as much as the whole input does, and the line is the report's. Assumes nothing.
+use Prim.Native.Nat.{ℕ}
+use mathlib.Core.List.{List}
 use mathlib.Core.Path.{_∙_, ap}
 use borrow.Author.Needs.{needs}
 use Rattle.bundle.specs.Audit.{auditBundleOf}
@@ -18,7 +20,7 @@ printed-requires c κs = search needs
 
 returns : tie.Need-returns
 returns c = (
-  λ input e. c .printed .ensures .0 ∙ ap lineOf (c .before .audit-bundle .ensures ∙ ap auditBundleOf e ∙ audit-same input _ (c .before .before .before .before .pre .0)),
+  λ input e. c .printed .ensures .0 ∙ ap lineOf (c .before .audit-bundle .ensures .0 ∙ ap (λ (l : List ℕ). auditBundleOf l (c .before .before .before .before .args .fill)) e ∙ audit-same input _ _ (c .before .before .before .before .pre .0)),
   c .printed .ensures .1,
 )
 

@@ -1,8 +1,8 @@
 -- The buffer holds more than the largest bundle, and what is read of it and written is within its array. Assumes nothing.
 use native.Mathlib.Omega.{arith}
 use borrow.Author.Needs.{needs}
-use Rattle.audit_image.proofs.main.Statement.{statement}
-use Rattle.audit_image.proofs.main.Tie as tie
+use Rattle.audit_image.proofs.run.Statement.{statement}
+use Rattle.audit_image.proofs.run.Tie as tie
 
 slice-aggregate-read-full : tie.Need-slice-aggregate-read-full
 slice-aggregate-read-full c = search needs
@@ -28,7 +28,7 @@ write-all-requires c κs = search needs
 returns : tie.Need-returns
 returns c = search needs
 
-pub main-spec : {M : Type 1} → statement M
-main-spec =
+pub run-spec : {M : Type 1} → statement M
+run-spec =
     tie.close
     (tie.spec slice-aggregate-read-full read-full-requires slice-aggregate-audited audited-requires array-share-prefix-text slice-aggregate-write-all write-all-requires returns)

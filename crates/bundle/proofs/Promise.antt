@@ -1,0 +1,110 @@
+-- What the audit of a bundle reports says what is promised of it. Assumes nothing.
+use Prim.Native.Nat.{ℕ, _+_, _-_, _/_, _≤_}
+use mathlib.Core.Path.{_≡_, refl, sym, ap, _∙_}
+use mathlib.Core.Logic.{_↔_}
+use mathlib.Core.List.{List}
+use native.Mathlib.Omega.{arith}
+use lib.ListN.{length}
+use Rattle.section.specs.Check.{onCheck}
+use Rattle.section.specs.declared.Check.{Check}
+use Rattle.section.specs.declared.Refusal.{Refusal}
+use Rattle.section.proofs.Views.{bytes-length}
+use Rattle.image.specs.Image.{Image, countOf, Sections}
+use Rattle.audit.specs.Audit.{auditOf}
+use Rattle.audit.specs.declared.Verdict.{Verdict}
+use Rattle.audit.proofs.Exact.{audit-exact}
+use Rattle.audit.proofs.Promise.{demand-three}
+use Rattle.bundle.specs.Audit.{fillRule, imageIn, reportedOf, onBundle, auditBundleOf}
+use Rattle.bundle.specs.Bundle.{bundleOf}
+use Rattle.bundle.specs.Promise.{SoundBundle, BundlePromise, EntryFault}
+use Rattle.bundle.specs.declared.Bundle.{Bundle}
+use Rattle.bundle.specs.declared.BundleRead.{BundleRead}
+use Rattle.bundle.specs.declared.Report.{Report}
+use Rattle.bundle.proofs.Entries.{fault-at}
+use Rattle.bundle.proofs.Laws.{fill-exact, audit-read}
+use Rattle.bundle.proofs.Placed.{bundle-placed}
+
+module _ (xs : List ℕ) (fill : ℕ) where
+  -- a bundle that was read, with a fill that fits
+  record Filled (b : Bundle) : Type 0 where
+    is : bundleOf xs ≡ BundleRead.Is b
+    fills : (fill ≤ 3) × (fill ≤ b .«table_bytes»)
+
+  -- what a report can be, and what it says
+  data Reports : Report → Type 0 where
+    refused : {r : Refusal} → Reports (Report.Fault r)
+    passed : {b : Bundle} → Filled b → auditOf (imageIn xs fill b) ≡ Verdict.Passed → Reports (Report.Passed (b .«index_bytes» / 8))
+    entry : {b : Bundle} {r : Refusal} {k : ℕ} → Filled b → auditOf (imageIn xs fill b) ≡ Verdict.Fault r k → Reports (Report.Entry r k)
+
+  reports : Reports (auditBundleOf xs fill)
+  unfolding auditBundleOf
+  reports = go (bundleOf xs) refl
+    where
+      verdict : (b : Bundle) → Filled b → (v : Verdict) → auditOf (imageIn xs fill b) ≡ v → Reports (reportedOf (b .«index_bytes» / 8) v)
+      verdict b f Verdict.Passed e = Reports.passed f e
+      verdict b f (Verdict.Fault r k) e = Reports.entry f e
+
+      filled : (b : Bundle) → bundleOf xs ≡ BundleRead.Is b → (c : Check) → fillRule fill (b .«table_bytes») ≡ c
+          → Reports (onCheck c (reportedOf (b .«index_bytes» / 8) (auditOf (imageIn xs fill b))) Report.Fault)
+      filled b e Check.Fine p = verdict b (record { is = e; fills = fill-exact fill (b .«table_bytes») .0 p }) (auditOf (imageIn xs fill b)) refl
+      filled b e (Check.Fault r) p = Reports.refused
+
+      go : (x : BundleRead) → bundleOf xs ≡ x
+          → Reports (onBundle x (λ b. onCheck (fillRule fill (b .«table_bytes»)) (reportedOf (b .«index_bytes» / 8) (auditOf (imageIn xs fill b))) Report.Fault))
+      go (BundleRead.Is b) e = filled b e (fillRule fill (b .«table_bytes»)) refl
+      go (BundleRead.Refused r) e = Reports.refused
+
+  -- ---- the image of a bundle that was read
+  module _ (b : Bundle) (e : bundleOf xs ≡ BundleRead.Is b) where
+    index-long : length (imageIn xs fill b .index) ≡ b .«index_bytes»
+    index-long = let p = bundle-placed xs b e in bytes-length xs (b .index .0) (b .«index_bytes») (omega (arith, p .index, p .whole))
+
+    counted : b .«index_bytes» / 8 ≡ countOf (imageIn xs fill b)
+    counted = ap (λ n. n / 8) (sym index-long)
+
+    sections : fill ≤ b .«table_bytes» → Sections (imageIn xs fill b)
+    sections h =
+        let p = bundle-placed xs b e in
+        let l = bytes-length xs (b .table .0) (b .«table_bytes» - fill) (omega (arith, p .table, p .whole)) in
+        record {
+          index = rw index-long (p .index-section);
+          table = rw l (record { short = omega (arith, p .table-section .short); placed = omega (arith, p .table-section .placed) });
+        }
+
+  -- ---- from a report, and back
+  passed-sound : (n : ℕ) → auditBundleOf xs fill ≡ Report.Passed n → SoundBundle xs fill n
+  passed-sound n e = go (auditBundleOf xs fill) e reports
+    where
+      go : (x : Report) → x ≡ Report.Passed n → Reports x → SoundBundle xs fill n
+      go x p Reports.refused = let z : _≡_ {A = ℕ} 0 1 = cc in absurd (omega arith)
+      go x p (Reports.passed {b = b} f a) =
+          let q : b .«index_bytes» / 8 ≡ n = cc in
+          record { bundle = b; is = f .is; fills = f .fills; entries = sym q ∙ counted b (f .is); sound = audit-exact (imageIn xs fill b) .0 a }
+      go x p (Reports.entry f a) = let z : _≡_ {A = ℕ} 0 1 = cc in absurd (omega arith)
+
+  sound-passed : (n : ℕ) → SoundBundle xs fill n → auditBundleOf xs fill ≡ Report.Passed n
+  sound-passed n s =
+      audit-read xs fill (s .bundle) (s .is) (fill-exact fill (s .bundle .«table_bytes») .1 (s .fills)) _ _ refl refl Verdict.Passed (sym (audit-exact (imageIn xs fill (s .bundle)) .1 (s .sound)))
+      ∙ ap Report.Passed (counted (s .bundle) (s .is) ∙ sym (s .entries))
+
+  promised : (n : ℕ) → auditBundleOf xs fill ≡ Report.Passed n → BundlePromise xs fill
+  promised n e =
+      let s = passed-sound n e in
+      let i = imageIn xs fill (s .bundle) in
+      record { bundle = s .bundle; is = s .is; promise = demand-three i (audit-exact i .1 (s .sound)) }
+
+  entry-fault : (r : Refusal) (k : ℕ) → auditBundleOf xs fill ≡ Report.Entry r k → EntryFault xs fill r k
+  entry-fault r k e = go (auditBundleOf xs fill) e reports
+    where
+      go : (x : Report) → x ≡ Report.Entry r k → Reports x → EntryFault xs fill r k
+      go x p Reports.refused = let z : _≡_ {A = ℕ} 0 1 = cc in absurd (omega arith)
+      go x p (Reports.passed f a) = let z : _≡_ {A = ℕ} 0 1 = cc in absurd (omega arith)
+      go x p (Reports.entry {b = b} {r = s} {k = j} f a) =
+          let q : s ≡ r = cc in
+          let l : j ≡ k = cc in
+          let g = fault-at (imageIn xs fill b) (sections b (f .is) (f .fills .1)) r k (rw (q, l) at a) in
+          record { bundle = b; is = f .is; there = g .0; no-section = g .1 }
+
+  -- a report says all four
+  pub told : (r : Report) → r ≡ auditBundleOf xs fill → (r ≡ auditBundleOf xs fill) × (((n : ℕ) → (r ≡ Report.Passed n) ↔ SoundBundle xs fill n) × (((n : ℕ) → r ≡ Report.Passed n → BundlePromise xs fill) × ((f : Refusal) (k : ℕ) → r ≡ Report.Entry f k → EntryFault xs fill f k)))
+  told r e = (e, (λ n. (λ p. passed-sound n (sym e ∙ p), λ s. e ∙ sound-passed n s), (λ n p. promised n (sym e ∙ p), λ f k p. entry-fault f k (sym e ∙ p))))
