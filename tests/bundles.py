@@ -1,7 +1,8 @@
 #!/usr/bin/env python3
 """bundles.py: runs the program audit_image on bundles of every kind and compares its line with tests/paper.py's.
 
-Each refusal that a bundle can give at the first, a middle and the last entry; truncations at every byte of a small bundle; counts at their limits; leftovers; a largest bundle."""
+Each refusal that a bundle can give at the first, a middle and the last entry; truncations at every byte of a small bundle; counts at their limits; leftovers; a largest bundle; tables that are no
+multiple of 4 bytes long, with their fill as the argument; and arguments that say no fill."""
 import random
 import subprocess
 import sys
@@ -13,8 +14,8 @@ import paper
 PROGRAM = "target/bin/audit_image"
 
 
-def bundle(index, table, index_at=edges.INDEX_AT, table_at=edges.TABLE_AT):
-    table += bytes(-len(table) % 4)
+def bundle(index, table, index_at=edges.INDEX_AT, table_at=edges.TABLE_AT, filler=b"\0"):
+    table += filler * (-len(table) % 4)
     return edges.words(2, index_at, table_at, len(index) // 8) + index + edges.words(len(table) // 4) + table
 
 
@@ -85,24 +86,58 @@ def all_bundles():
         yield bytes(bad)
 
 
+def filled():
+    """Bundles with a fill: every length of a small table, filled by zeros and by FF, and damaged ones."""
+    index, table = edges.small_image()
+    for n in range(len(table) + 1):
+        for filler in (b"\0", b"\xFF"):
+            data = bundle(index, table[:n], filler=filler)
+            yield from ((data, fill) for fill in (1, 2, 3))
+    yield from ((data, 1 + k % 3) for k, data in enumerate(all_bundles()) if k % 7 == 0)
+
+
+def printed(data, *arguments):
+    return subprocess.run([PROGRAM, *arguments], input=data, stdout=subprocess.PIPE, stderr=subprocess.PIPE, check=True)
+
+
+def compare(data, fill):
+    """The program's line, which is the paper's."""
+    line = printed(data, *([str(fill)] if fill else [])).stdout.decode()
+    expected = paper.audit_line(data, fill) + "\n"
+    if line != expected:
+        open("target/differs.bundle", "wb").write(data)
+        sys.exit(f"target/differs.bundle, fill {fill}: audit_image says {line!r}, the paper {expected!r}")
+    return line
+
+
+def usage():
+    """No fill: nothing on standard output, and how the program is used on standard error."""
+    data = bundle(*edges.small_image())
+    wrong = [("",), ("0",), ("4",), ("9",), ("a",), ("-1",), ("01",), ("1 ",), ("12",), ("1\n",), ("1" * 5000,), ("1", "1"), ("", ""), ("1", "")]
+    for arguments in wrong:
+        done = printed(data, *arguments)
+        if done.stdout or not done.stderr.startswith(b"usage: ") or done.stderr.count(b"\n") != 1:
+            sys.exit(f"audit_image {arguments}: {done.stdout!r}, {done.stderr!r}")
+    return len(wrong)
+
+
 def main():
     seen = {}
     for data in all_bundles():
-        line = subprocess.run([PROGRAM], input=data, stdout=subprocess.PIPE, check=True).stdout.decode()
-        expected = paper.audit_line(data) + "\n"
-        if line != expected:
-            open("target/differs.bundle", "wb").write(data)
-            sys.exit(f"target/differs.bundle: audit_image says {line!r}, the paper {expected!r}")
+        line = compare(data, 0)
         kind = " ".join(line.split()[:2]) if line.startswith("fault") else "ok"
         seen[kind] = seen.get(kind, 0) + 1
     missing = [n for n in (1, 3, 4, 5, 6, 7, 8, 9, 10, 13, 14, 15, 16, 18) if f"fault {n}" not in seen]
     if missing:
         sys.exit(f"no bundle gave {missing}")
+    fills = [(data, fill, compare(data, fill)) for data, fill in filled()]
+    if all(line == compare(data, 0) for data, _, line in fills):
+        sys.exit("no fill made a difference")
     data = largest()
     start = time.perf_counter()
-    subprocess.run([PROGRAM], input=data, stdout=subprocess.PIPE, check=True)
+    printed(data)
     took = time.perf_counter() - start
-    print(f"audit_image: {sum(seen.values())} bundles as the paper has them: {', '.join(f'{k}: {v}' for k, v in sorted(seen.items()))}; a largest one in {took * 1000:.1f} ms")
+    print(f"audit_image: {sum(seen.values())} bundles as the paper has them: {', '.join(f'{k}: {v}' for k, v in sorted(seen.items()))}; {len(fills)} with a fill; {usage()} wrong arguments; a largest one in {took * 1000:.1f} ms")
     if took > 0.5:
         sys.exit("a largest bundle took too long")
 

@@ -445,12 +445,14 @@ def bundle(data):
     return index_address, table_address, 16, 8 * entries, 20 + 8 * entries, 4 * words
 
 
-def audit_line(data):
-    """What audit_image prints."""
+def audit_line(data, fill=0):
+    """What audit_image prints; the last `fill` bytes of the table only fill its last word."""
     number, row = answered(6, bundle, data)
     if number:
         return f"fault {number}"
+    if fill > 3 or fill > row[5]:
+        return f"fault {BUNDLE}"
     index = data[row[2]:row[2] + row[3]]
-    table = data[row[4]:row[4] + row[5]]
+    table = data[row[4]:row[4] + row[5] - fill]
     number, (entry,) = audit(index, row[0], table, row[1])
     return f"fault {number} at entry {entry}" if number else f"ok {len(index) // 8}"
