@@ -53,8 +53,8 @@ def uncited(files):
     counts = words("\n".join(l for ls in text.values() for l in ls))
     counts.update(words("\n".join(l for path in glob.glob("docs/*.md") for l in lines_of(path))))
     for path in files:
-        # A function's own proof file has its needs, and Answers.antt the paper's rows for each answer.
-        if path.endswith(("Proof.antt", "Answers.antt", ".rt")):
+        # A function's own proof file has its needs.
+        if path.endswith(("Proof.antt", ".rt")):
             continue
         for indent, name in dict.fromkeys(m.groups() for l in text[path] if (m := LAW.match(l))):
             own = re.compile(f"{indent}(?:(?:abbrev|unfoldable|opaque) )*(?:pub )?(?:data |record )?{re.escape(name)}(?![^\\s:({{])")

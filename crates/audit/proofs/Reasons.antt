@@ -13,7 +13,7 @@ use Rattle.section.specs.declared.Refusal.{Refusal}
 use Rattle.section.specs.declared.Check.{Check}
 use Rattle.section.proofs.Checks.{fault-not}
 use Rattle.pointer.specs.Reads.{NoPointer}
-use Rattle.instruction.specs.Program.{auditInstructionsOf, Audited}
+use Rattle.instruction.specs.Program.{Audited}
 use Rattle.instruction.proofs.Program.{audit-audited}
 use Rattle.entry.specs.Index.{functionOf, functionAt, onFunction}
 use Rattle.entry.specs.Read.{FunctionGives}

@@ -14,13 +14,13 @@ use Rattle.section.specs.Walk.{trailFrom, trailOf, checked}
 use Rattle.section.specs.Word.{word, wordAt}
 use Rattle.section.specs.declared.Addr.{Addr}
 use Rattle.section.specs.declared.Refusal.{Refusal}
-use Rattle.pointer.specs.Number.{ended, lebOf, fixedOf, unsignedOf, signedOf}
+use Rattle.pointer.specs.Number.{ended, lebOf, unsignedOf}
 use Rattle.pointer.specs.Pointer.{sized, ulebOf, pointerOf, formed}
 use Rattle.instruction.specs.Bytes.{byteOf}
-use Rattle.instruction.specs.Decode.{popMask, toSp, popRun, lowMask, longOf, popLong, vfpPop, singleOf, opcodeOf, decodeOf}
+use Rattle.instruction.specs.Decode.{toSp, singleOf, opcodeOf, decodeOf}
 use Rattle.instruction.specs.Program.{programOf, auditInstructionsOf}
 use Rattle.entry.specs.Index.{numbered, functionOf, functionIn, functionAt, contentOf, contentAt, indexEntryOf}
-use Rattle.entry.specs.Table.{fitting, compactOf, genericOf, entryBy, tableEntryOf}
+use Rattle.entry.specs.Table.{fitting, genericOf, entryBy, tableEntryOf}
 use Rattle.lsda.specs.Header.{byteAt, baseAt, typesAt, tableAt, headerOf}
 use Rattle.lsda.specs.Site.{pairAt, summedOf, fieldsAt, siteAt, fitsOf}
 use Rattle.lsda.specs.Sites.{auditSitesOf}

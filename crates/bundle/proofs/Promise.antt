@@ -1,5 +1,5 @@
 -- What the audit of a bundle reports says what is promised of it. Assumes nothing.
-use Prim.Native.Nat.{ℕ, _+_, _-_, _/_, _≤_}
+use Prim.Native.Nat.{ℕ, _-_, _/_, _≤_}
 use mathlib.Core.Path.{_≡_, refl, sym, ap, _∙_}
 use mathlib.Core.Logic.{_↔_}
 use mathlib.Core.List.{List}
@@ -9,18 +9,19 @@ use Rattle.section.specs.Check.{onCheck}
 use Rattle.section.specs.declared.Check.{Check}
 use Rattle.section.specs.declared.Refusal.{Refusal}
 use Rattle.section.proofs.Views.{bytes-length}
-use Rattle.image.specs.Image.{Image, countOf, Sections}
+use Rattle.image.specs.Image.{countOf, Sections}
 use Rattle.audit.specs.Audit.{auditOf}
 use Rattle.audit.specs.declared.Verdict.{Verdict}
 use Rattle.audit.proofs.Exact.{audit-exact}
 use Rattle.audit.proofs.Promise.{demand-three}
+use Rattle.audit.specs.Reasons.{NoPass}
+use Rattle.audit.proofs.Reasons.{audit-refused}
 use Rattle.bundle.specs.Audit.{fillRule, imageIn, reportedOf, onBundle, auditBundleOf}
 use Rattle.bundle.specs.Bundle.{bundleOf}
-use Rattle.bundle.specs.Promise.{SoundBundle, BundlePromise, EntryFault}
+use Rattle.bundle.specs.Promise.{SoundBundle, BundlePromise, FaultyEntry}
 use Rattle.bundle.specs.declared.Bundle.{Bundle}
 use Rattle.bundle.specs.declared.BundleRead.{BundleRead}
 use Rattle.bundle.specs.declared.Report.{Report}
-use Rattle.bundle.proofs.Entries.{fault-at}
 use Rattle.bundle.proofs.Laws.{fill-exact, audit-read}
 use Rattle.bundle.proofs.Placed.{bundle-placed}
 
@@ -93,18 +94,21 @@ module _ (xs : List ℕ) (fill : ℕ) where
       let i = imageIn xs fill (s .bundle) in
       record { bundle = s .bundle; is = s .is; promise = demand-three i (audit-exact i .1 (s .sound)) }
 
-  entry-fault : (r : Refusal) (k : ℕ) → auditBundleOf xs fill ≡ Report.Entry r k → EntryFault xs fill r k
+  at-entry : (b : Bundle) → bundleOf xs ≡ BundleRead.Is b → Sections (imageIn xs fill b) → (r : Refusal) (k : ℕ) → NoPass (imageIn xs fill b) r k → FaultyEntry xs fill r k
+  at-entry b e s r k (NoPass.section n) = absurd (n s)
+  at-entry b e s r k (NoPass.entry _ l f) = record { bundle = b; is = e; there = l; fault = f }
+
+  entry-fault : (r : Refusal) (k : ℕ) → auditBundleOf xs fill ≡ Report.Entry r k → FaultyEntry xs fill r k
   entry-fault r k e = go (auditBundleOf xs fill) e reports
     where
-      go : (x : Report) → x ≡ Report.Entry r k → Reports x → EntryFault xs fill r k
+      go : (x : Report) → x ≡ Report.Entry r k → Reports x → FaultyEntry xs fill r k
       go x p Reports.refused = let z : _≡_ {A = ℕ} 0 1 = cc in absurd (omega arith)
       go x p (Reports.passed f a) = let z : _≡_ {A = ℕ} 0 1 = cc in absurd (omega arith)
       go x p (Reports.entry {b = b} {r = s} {k = j} f a) =
           let q : s ≡ r = cc in
           let l : j ≡ k = cc in
-          let g = fault-at (imageIn xs fill b) (sections b (f .is) (f .fills .1)) r k (rw (q, l) at a) in
-          record { bundle = b; is = f .is; there = g .0; no-section = g .1 }
+          at-entry b (f .is) (sections b (f .is) (f .fills .1)) r k (audit-refused (imageIn xs fill b) r k (rw (q, l) at a))
 
   -- a report says all four
-  pub told : (r : Report) → r ≡ auditBundleOf xs fill → (r ≡ auditBundleOf xs fill) × (((n : ℕ) → (r ≡ Report.Passed n) ↔ SoundBundle xs fill n) × (((n : ℕ) → r ≡ Report.Passed n → BundlePromise xs fill) × ((f : Refusal) (k : ℕ) → r ≡ Report.Entry f k → EntryFault xs fill f k)))
+  pub told : (r : Report) → r ≡ auditBundleOf xs fill → (r ≡ auditBundleOf xs fill) × (((n : ℕ) → (r ≡ Report.Passed n) ↔ SoundBundle xs fill n) × (((n : ℕ) → r ≡ Report.Passed n → BundlePromise xs fill) × ((f : Refusal) (k : ℕ) → r ≡ Report.Entry f k → FaultyEntry xs fill f k)))
   told r e = (e, (λ n. (λ p. passed-sound n (sym e ∙ p), λ s. e ∙ sound-passed n s), (λ n p. promised n (sym e ∙ p), λ f k p. entry-fault f k (sym e ∙ p))))

@@ -5,6 +5,7 @@ use mathlib.Core.List.{List}
 use Rattle.section.specs.declared.Refusal.{Refusal}
 use Rattle.image.specs.Image.{countOf}
 use Rattle.audit.specs.Promise.{Promise}
+use Rattle.audit.specs.Reasons.{EntryFault}
 use Rattle.audit.specs.Sound.{Sound}
 use Rattle.bundle.specs.Audit.{imageIn}
 use Rattle.bundle.specs.Bundle.{bundleOf}
@@ -25,9 +26,9 @@ pub record BundlePromise (xs : List ℕ) (fill : ℕ) : Type 0 where
   pub is : bundleOf xs ≡ BundleRead.Is bundle
   pub promise : Promise (imageIn xs fill bundle)
 
--- refusal r at entry k: the entry is there, and r is no section's, as the sections of a bundle that was read pass
-pub record EntryFault (xs : List ℕ) (fill : ℕ) (r : Refusal) (k : ℕ) : Type 0 where
+-- refusal r at entry k: the entry is there, and r is an entry's, as the sections of a bundle that was read pass
+pub record FaultyEntry (xs : List ℕ) (fill : ℕ) (r : Refusal) (k : ℕ) : Type 0 where
   pub bundle : Bundle
   pub is : bundleOf xs ≡ BundleRead.Is bundle
   pub there : k < countOf (imageIn xs fill bundle)
-  pub no-section : r ≡ Refusal.Section → ⊥
+  pub fault : EntryFault r

@@ -5,7 +5,7 @@ ghost use Prim.Native.Nat.{ℕ};
 ghost use Rattle.section.specs.declared.Refusal.{Refusal};
 ghost use Rattle.bundle.specs.Audit.{fillRule, reportedOf, auditBundleOf};
 ghost use Rattle.bundle.specs.Bundle.{bundleOf};
-ghost use Rattle.bundle.specs.Promise.{SoundBundle, BundlePromise, EntryFault};
+ghost use Rattle.bundle.specs.Promise.{SoundBundle, BundlePromise, FaultyEntry};
 use audit::Verdict;
 use section::Addr;
 use section::Check;
@@ -86,7 +86,7 @@ pub fn audit_bundle(bytes: &[u8], fill: u32) -> Report
     ensures answer { λ r. ⌜ r ≡ auditBundleOf (now (bytes .entry)) fill ⌝ }
     ensures passes_exactly { λ r. ⌜ ((n : ℕ) → (r ≡ Report.Passed n) ↔ SoundBundle (now (bytes .entry)) fill n) ⌝ }
     ensures demand_three { λ r. ⌜ ((n : ℕ) → r ≡ Report.Passed n → BundlePromise (now (bytes .entry)) fill) ⌝ }
-    ensures entry_fault { λ r. ⌜ ((f : Refusal) (k : ℕ) → r ≡ Report.Entry f k → EntryFault (now (bytes .entry)) fill f k) ⌝ }
+    ensures entry_fault { λ r. ⌜ ((f : Refusal) (k : ℕ) → r ≡ Report.Entry f k → FaultyEntry (now (bytes .entry)) fill f k) ⌝ }
 {
     match read_bundle(bytes) {
         BundleRead::Refused(r) => Report::Fault(r),

@@ -5,7 +5,7 @@ use mathlib.Core.List.{List}
 use native.Mathlib.Omega.{arith}
 use lib.ListN.{length}
 use Rattle.section.specs.Check.{onCheck}
-use Rattle.section.specs.Rule.{stackMost, stackRule, Section}
+use Rattle.section.specs.Rule.{stackMost, stackRule}
 use Rattle.section.specs.declared.Addr.{Addr}
 use Rattle.section.specs.declared.Refusal.{Refusal}
 use Rattle.section.specs.declared.Check.{Check}

@@ -11,8 +11,6 @@ use Rattle.section.specs.View.{bytesOf, Part}
 use Rattle.section.specs.declared.Check.{Check}
 use Rattle.section.specs.declared.Refusal.{Refusal}
 use Rattle.section.specs.declared.Check.the-variants.{Fine, Fault}
-use Rattle.instruction.specs.Bytes.{byteOf}
-use Rattle.instruction.specs.declared.Byte.{Byte}
 use Rattle.section.proofs.Views.{part-one}
 use Rattle.walker.specs.Walker.{startRule, startSpot, startPos, Starts, StepsByte, StepsInstruction}
 use Rattle.walker.specs.declared.UnwindByteIter.{UnwindByteIter}

@@ -4,10 +4,6 @@ use mathlib.Core.Path.{refl, sym, _∙_}
 use borrow.Author.Needs.{needs}
 use Rattle.anrukfal.proofs.anrukfal_audit.Statement.{statement}
 use Rattle.anrukfal.proofs.anrukfal_audit.Tie as tie
-use Rattle.anrukfal.proofs.anrukfal_audit.Reads as reads
-use Rattle.anrukfal.proofs.anrukfal_audit.Lts as lts
-use Rattle.audit.proofs.audit.Reads as audit-reads
-use Rattle.section.proofs.Refusal.number.Reads as number-reads
 
 audit-requires : tie.Need-audit-requires
 audit-requires c κs = search needs

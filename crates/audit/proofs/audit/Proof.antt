@@ -7,10 +7,6 @@ use mathlib.Core.Path.{refl, sym, _∙_}
 use borrow.Author.Needs.{needs}
 use Rattle.audit.proofs.audit.Statement.{statement}
 use Rattle.audit.proofs.audit.Tie as tie
-use Rattle.audit.proofs.audit.Reads as reads
-use Rattle.audit.proofs.audit.Lts as lts
-use Rattle.audit.proofs.entries.Reads as entries-reads
-use Rattle.image.proofs.sections.Reads as sections-reads
 
 sections-requires : tie.Need-sections-requires
 sections-requires c κs = search needs
@@ -31,17 +27,17 @@ enum-known-r-2 : tie.Need-enum-known-r-2
 enum-known-r-2 c = search needs
 
 returns : tie.Need-returns
-returns c = 
+returns c =
     let e = audit-sections _ _ (sym (c .before .before .before .sections .ensures) ∙ c .before .r .given .1) in
     (λ p. no-pass _ _ p, ((λ p. no-pass _ _ p, λ s. no-pass _ _ (sym e ∙ audit-exact _ .1 s)), sym e))
 
 returns-2 : tie.Need-returns-2
-returns-2 c = 
+returns-2 c =
     let e = audit-entries _ (sym (c .before .before .before .before .before .sections .ensures) ∙ c .before .before .before .enum-told .given .1) _ (c .before .before .entries .ensures) (c .enum-told2 .given .1) in
     (λ _. demand-three _ e, ((λ _. audit-exact _ .0 e, λ _. refl), sym e))
 
 returns-3 : tie.Need-returns-3
-returns-3 c = 
+returns-3 c =
     let e = audit-entries _ (sym (c .before .before .before .before .before .before .sections .ensures) ∙ c .before .before .before .before .enum-told .given .1) _ (c .before .before .before .entries .ensures) (c .before .r2 .given .1) in
     (λ p. no-pass _ _ p, ((λ p. no-pass _ _ p, λ s. no-pass _ _ (sym e ∙ audit-exact _ .1 s)), sym e))
 
