@@ -33,20 +33,7 @@ struct Tallies {
 }
 
 pub fn all(images: usize) -> Vec<Tally> {
-    let mut t = Tallies {
-        prel31: Tally::new("plain prel31"),
-        pointer: Tally::new("plain pointers"),
-        instruction: Tally::new("plain instructions"),
-        index: Tally::new("plain index entries"),
-        table: Tally::new("plain table entries"),
-        site: Tally::new("plain call sites"),
-        bundle: Tally::new("plain bundles"),
-        search: Tally::new("plain search"),
-        lookup: Tally::new("plain lookup"),
-        step: Tally::new("plain step"),
-        audit: Tally::new("plain audit"),
-        lent: Tally::new("plain lent memory"),
-    };
+    let mut t = Tallies::new();
     let mut readers = Readers::new();
     let mut arenas = Arena::more();
     let mut r = Random::seeded(31);
@@ -71,9 +58,7 @@ pub fn all(images: usize) -> Vec<Tally> {
     readers.images(images / 10, &mut arenas);
     readers.small(images / 4);
     readers.limits();
-    let mut tallies = vec![
-        t.prel31, t.pointer, t.instruction, t.index, t.table, t.site, t.bundle, t.search, t.lookup, t.step, t.audit, t.lent,
-    ];
+    let mut tallies = t.tallies();
     tallies.extend(readers.tallies());
     tallies
 }
@@ -93,6 +78,30 @@ pub fn size(image: &Image) -> usize {
 }
 
 impl Tallies {
+    fn new() -> Tallies {
+        Tallies {
+            prel31: Tally::new("plain prel31"),
+            pointer: Tally::new("plain pointers"),
+            instruction: Tally::new("plain instructions"),
+            index: Tally::new("plain index entries"),
+            table: Tally::new("plain table entries"),
+            site: Tally::new("plain call sites"),
+            bundle: Tally::new("plain bundles"),
+            search: Tally::new("plain search"),
+            lookup: Tally::new("plain lookup"),
+            step: Tally::new("plain step"),
+            audit: Tally::new("plain audit"),
+            lent: Tally::new("plain lent memory"),
+        }
+    }
+
+    fn tallies(self) -> Vec<Tally> {
+        vec![
+            self.prel31, self.pointer, self.instruction, self.index, self.table, self.site, self.bundle, self.search, self.lookup,
+            self.step, self.audit, self.lent,
+        ]
+    }
+
     fn pointer(&mut self, data: &[u8], at: u32, encoding: u8) {
         let ours = filled(|row| unsafe { raw::anrukfal_pointer(data.as_ptr(), data.len(), at, encoding, row) });
         let paper = plain::pointer(data, at, encoding);
