@@ -4,6 +4,7 @@ mod agree_readers;
 mod compare;
 mod compare_readers;
 mod record;
+use oracle::floors::FLOORS;
 use oracle::parted::Why;
 use oracle::tally::Tally;
 use std::path::Path;
@@ -28,7 +29,7 @@ fn main() -> ExitCode {
         rust.iter().chain(&plain).for_each(|t| println!("{}", t.floors()));
         return ExitCode::SUCCESS;
     }
-    let good = report(&rust, "the Rust") & report(&plain, "a plain reading");
+    let good = report(&rust, "the Rust") & report(&plain, "a plain reading") & whole(&rust, &plain);
     if good { ExitCode::SUCCESS } else { ExitCode::FAILURE }
 }
 
@@ -37,4 +38,10 @@ fn report(tallies: &[Tally], with: &str) -> bool {
     let compared: u64 = tallies.iter().map(|t| t.compared).sum();
     println!("{:>24}: {compared:>11} compared with {with}", "all");
     good
+}
+
+/// Whether every kind that has floors was compared.
+fn whole(rust: &[Tally], plain: &[Tally]) -> bool {
+    let missing = FLOORS.iter().filter(|(kind, ..)| rust.iter().chain(plain).all(|t| t.name != *kind));
+    missing.inspect(|(kind, ..)| println!("{kind:>24}: not compared")).count() == 0
 }

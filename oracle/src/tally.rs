@@ -6,7 +6,7 @@ use std::collections::BTreeMap;
 use std::fmt::Debug;
 
 pub struct Tally {
-    name: &'static str,
+    pub name: &'static str,
     pub compared: u64,
     /// How often each number was the answer.
     numbers: [u64; 19],
