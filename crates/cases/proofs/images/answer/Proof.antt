@@ -40,7 +40,7 @@ anrukfal-audit-requires : tie.Need-anrukfal-audit-requires
 anrukfal-audit-requires c κs = search needs
 
 slice-aggregate-show-2 : tie.Need-slice-aggregate-show-2
-slice-aggregate-show-2 c = filled (verdict-row (auditOf _)) (c .before .anrukfal-audit .ensures)
+slice-aggregate-show-2 c = filled (verdict-row (auditOf _)) (c .before .anrukfal-audit .ensures .1 .1)
 
 show-requires-2 : tie.Need-show-requires-2
 show-requires-2 c κs = search needs
