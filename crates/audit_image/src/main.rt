@@ -46,7 +46,7 @@ fn fill_of(argument: &[u8]) -> u32 {
     }
 }
 
-// An argument that is longer than the buffer leaves nothing in it. The program's own name is counted too.
+// The arguments are counted with the program's own name. One that is too long for the buffer counts as none of its bytes.
 fn main() {
     let count = os::arg_count();
     if count < 2 {
