@@ -73,10 +73,6 @@ rule-section most len a = and-section _ _ (need-section (leb len most)) (need-se
 pub rule-fault : (most len : ℕ) (a : Addr) (r : Refusal) → ruleOf len most a ≡ Fault r → r ≡ Refusal.Section
 rule-fault most len a r e = section-told _ r (rule-section most len a) e
 
-pub words-fault : (len : ℕ) (r : Refusal) → wordsRule len ≡ Fault r → r ≡ Refusal.Section
-unfolding wordsRule
-words-fault len r e = section-told _ r (and-section _ _ (need-section (leb len wordsMost)) (need-section (eqb (len % 4) 0))) e
-
 pub index-fault : (len : ℕ) (a : Addr) (r : Refusal) → indexRule len a ≡ Fault r → r ≡ Refusal.Section
 unfolding indexRule
 index-fault len a r e = section-told _ r (and-section _ _ (rule-section indexMost len a) (need-section (eqb (len % 8) 0))) e
