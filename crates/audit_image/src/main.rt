@@ -1,10 +1,11 @@
 // Audits the bundle on standard input and prints one line: ok N, fault R at entry I, or fault R. With an argument 1, 2 or 3, so many bytes at the end
 // of the bundle's table only fill its last word, and are no part of the table that is audited.
+ghost use mathlib.Core.Path.{_≡_};
 ghost use Prim.Native.Nat.{_<_};
 ghost use lib.ListN.{length};
 ghost use Rattle.io.specs.Counts.{Counts};
 ghost use Rattle.bundle.specs.Bundle.{mostBytes};
-ghost use Rattle.audit_image.specs.Input.{LineOfInput};
+ghost use Rattle.audit_image.specs.Input.{LineOfInput, fillOf};
 use crate::line::Line;
 
 mod line;
@@ -33,7 +34,9 @@ fn run(fill: u32) {
 }
 
 // The fill that an argument says; 0 where it is no digit from 1 to 3.
-fn fill_of(argument: &[u8]) -> u32 {
+fn fill_of(argument: &[u8]) -> u32
+    ensures { λ r. ⌜ r ≡ fillOf (now (argument .entry)) ⌝ }
+{
     if argument.len() != 1 {
         return 0;
     }
