@@ -1,6 +1,7 @@
 /* Anrukfal: the proved unwinder core, as a C library.
  *
- * Each call returns the refusal's number, 0 for none, and fills its row: all zero at a refusal. Memory that is lent is only read;
+ * Each call returns the refusal's number, 0 for none, and fills its row: all zero at a refusal, but for an audit's entry.
+ * anrukfal_prel31 returns the target. Memory that is lent is only read;
  * nothing but the row, and a step's registers, is written. Any bytes, addresses, counter and registers get one answer.
  *
  * What is lent, the row and the registers must be valid for their lengths and aligned, and may not overlap. NULL with length 0 is an

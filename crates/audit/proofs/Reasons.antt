@@ -6,6 +6,7 @@ use native.Mathlib.Omega.{arith}
 use lib.Dec.{leb}
 use lib.ListN.{length}
 use Rattle.section.specs.Check.{onCheck, andThen, need}
+use Rattle.section.specs.Number.{number}
 use Rattle.section.specs.Rule.{tableMost}
 use Rattle.section.specs.declared.Addr.{Addr}
 use Rattle.section.specs.declared.Off.{Off}
@@ -124,3 +125,18 @@ module _ (i : Image) where
           let a : r ≡ Refusal.Section = rw (sections-fault i y p) at (let b : r ≡ y = cc in b) in
           let b : k ≡ 0 = cc in
           rw (a, b) (NoPass.section (fault-not (sectionsOf i) y (sections-exact i) p))
+
+-- an entry's faults in the paper's numbers: 3 to 10 and 13 to 16. So never 2 or 11, which a lookup may answer, and never 12 or 17, which a step may
+pub fault-numbers : (r : Refusal) → EntryFault r → (3 ≤ number r) × (number r ≤ 16) × (10 < number r → 13 ≤ number r)
+fault-numbers r EntryFault.corrupt = (omega arith, omega arith, λ h. omega arith)
+fault-numbers r EntryFault.unsorted = (omega arith, omega arith, λ h. omega arith)
+fault-numbers r EntryFault.place = (omega arith, omega arith, λ h. omega arith)
+fault-numbers r EntryFault.truncated = (omega arith, omega arith, λ h. omega arith)
+fault-numbers r EntryFault.selector = (omega arith, omega arith, λ h. omega arith)
+fault-numbers r EntryFault.encoding = (omega arith, omega arith, λ h. omega arith)
+fault-numbers r EntryFault.value = (omega arith, omega arith, λ h. omega arith)
+fault-numbers r EntryFault.sum = (omega arith, omega arith, λ h. omega arith)
+fault-numbers r EntryFault.reserved = (omega arith, omega arith, λ h. omega arith)
+fault-numbers r EntryFault.unsupported = (omega arith, omega arith, λ h. omega arith)
+fault-numbers r EntryFault.malformed = (omega arith, omega arith, λ h. omega arith)
+fault-numbers r EntryFault.regs = (omega arith, omega arith, λ h. omega arith)

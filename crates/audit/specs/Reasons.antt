@@ -18,7 +18,7 @@ pub data EntryFault : Refusal → Type 0 where
   malformed : EntryFault Refusal.Malformed
   regs : EntryFault Refusal.Regs
 
--- 1 exactly where the sections do not pass, with entry 0; else a fault of an entry that is there
+-- 1 only where the sections do not pass, with entry 0; else a fault of an entry that is there
 pub data NoPass (i : Image) : Refusal → ℕ → Type 0 where
   section : (Sections i → ⊥) → NoPass i Refusal.Section 0
   entry : {r : Refusal} {k : ℕ} → Sections i → k < countOf i → EntryFault r → NoPass i r k

@@ -3,8 +3,8 @@ use Prim.Native.Nat.{ℕ, zero, suc, _+_, _/_, _%_}
 use mathlib.Core.List.{List, [], _∷_, _++_}
 use lib.Dec.{ltb}
 use lib.ListN.{take}
-use Rattle.section.specs.Number.{number}
 use Rattle.section.specs.Pick.{pick}
+use Rattle.bundle.specs.Answers.{reportAnswer}
 use Rattle.bundle.specs.declared.Report.{Report}
 use Rattle.audit_image.specs.declared.line.Line.{Line}
 
@@ -33,8 +33,8 @@ lineEnd = 0x0A ∷ []
 -- N index entries; refusal R, at entry I where it is an entry's
 unfoldable pub lineOf : Report → List ℕ
 lineOf (Report.Passed n) = ok ++ decimal n ++ lineEnd
-lineOf (Report.Entry r k) = fault ++ decimal (number r) ++ atEntry ++ decimal k ++ lineEnd
-lineOf (Report.Fault r) = fault ++ decimal (number r) ++ lineEnd
+lineOf (Report.Entry r k) = fault ++ decimal (reportAnswer (Report.Entry r k) .number) ++ atEntry ++ decimal k ++ lineEnd
+lineOf (Report.Fault r) = fault ++ decimal (reportAnswer (Report.Fault r) .number) ++ lineEnd
 
 -- what a line holds so far
 abbrev pub written : Line → List ℕ

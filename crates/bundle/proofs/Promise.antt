@@ -1,15 +1,16 @@
 -- What the audit of a bundle reports says what is promised of it. Assumes nothing.
 use Prim.Native.Nat.{ℕ, _-_, _/_, _≤_}
 use mathlib.Core.Path.{_≡_, refl, sym, ap, _∙_}
-use mathlib.Core.Logic.{_↔_}
 use mathlib.Core.List.{List}
 use native.Mathlib.Omega.{arith}
 use lib.ListN.{length}
+use denote.Ref.{RefT, now}
 use Rattle.section.specs.Check.{onCheck}
 use Rattle.section.specs.declared.Check.{Check}
 use Rattle.section.specs.declared.Refusal.{Refusal}
+use Rattle.section.specs.View.{Part, partFrom}
 use Rattle.section.proofs.Views.{bytes-length}
-use Rattle.image.specs.Image.{countOf, Sections}
+use Rattle.image.specs.Image.{image, countOf, Sections}
 use Rattle.audit.specs.Audit.{auditOf}
 use Rattle.audit.specs.declared.Verdict.{Verdict}
 use Rattle.audit.proofs.Exact.{audit-exact}
@@ -23,7 +24,20 @@ use Rattle.bundle.specs.declared.Bundle.{Bundle}
 use Rattle.bundle.specs.declared.BundleRead.{BundleRead}
 use Rattle.bundle.specs.declared.Report.{Report}
 use Rattle.bundle.proofs.Laws.{fill-exact, audit-read}
-use Rattle.bundle.proofs.Placed.{bundle-placed}
+use Rattle.bundle.proofs.Placed.{bundle-placed, part-bytes}
+
+-- a report is one of three
+pub fault-no-pass : {X : Type 0} (r : Refusal) (n : ℕ) → Report.Fault r ≡ Report.Passed n → X
+fault-no-pass r n e = let z : _≡_ {A = ℕ} 0 1 = cc in absurd (omega arith)
+
+pub fault-no-entry : {X : Type 0} (r f : Refusal) (k : ℕ) → Report.Fault r ≡ Report.Entry f k → X
+fault-no-entry r f k e = let z : _≡_ {A = ℕ} 0 1 = cc in absurd (omega arith)
+
+pub pass-no-entry : {X : Type 0} (n : ℕ) (f : Refusal) (k : ℕ) → Report.Passed n ≡ Report.Entry f k → X
+pass-no-entry n f k e = let z : _≡_ {A = ℕ} 0 1 = cc in absurd (omega arith)
+
+pub entry-no-pass : {X : Type 0} (r : Refusal) (k n : ℕ) → Report.Entry r k ≡ Report.Passed n → X
+entry-no-pass r k n e = let z : _≡_ {A = ℕ} 0 1 = cc in absurd (omega arith)
 
 module _ (xs : List ℕ) (fill : ℕ) where
   -- a bundle that was read, with a fill that fits
@@ -73,22 +87,22 @@ module _ (xs : List ℕ) (fill : ℕ) where
         }
 
   -- ---- from a report, and back
-  passed-sound : (n : ℕ) → auditBundleOf xs fill ≡ Report.Passed n → SoundBundle xs fill n
+  pub passed-sound : (n : ℕ) → auditBundleOf xs fill ≡ Report.Passed n → SoundBundle xs fill n
   passed-sound n e = go (auditBundleOf xs fill) e reports
     where
       go : (x : Report) → x ≡ Report.Passed n → Reports x → SoundBundle xs fill n
-      go x p Reports.refused = let z : _≡_ {A = ℕ} 0 1 = cc in absurd (omega arith)
+      go x p (Reports.refused {r = r}) = fault-no-pass r n p
       go x p (Reports.passed {b = b} f a) =
           let q : b .«index_bytes» / 8 ≡ n = cc in
           record { bundle = b; is = f .is; fills = f .fills; entries = sym q ∙ counted b (f .is); sound = audit-exact (imageIn xs fill b) .0 a }
-      go x p (Reports.entry f a) = let z : _≡_ {A = ℕ} 0 1 = cc in absurd (omega arith)
+      go x p (Reports.entry {r = r} {k = k} f a) = entry-no-pass r k n p
 
-  sound-passed : (n : ℕ) → SoundBundle xs fill n → auditBundleOf xs fill ≡ Report.Passed n
+  pub sound-passed : (n : ℕ) → SoundBundle xs fill n → auditBundleOf xs fill ≡ Report.Passed n
   sound-passed n s =
       audit-read xs fill (s .bundle) (s .is) (fill-exact fill (s .bundle .«table_bytes») .1 (s .fills)) _ _ refl refl Verdict.Passed (sym (audit-exact (imageIn xs fill (s .bundle)) .1 (s .sound)))
       ∙ ap Report.Passed (counted (s .bundle) (s .is) ∙ sym (s .entries))
 
-  promised : (n : ℕ) → auditBundleOf xs fill ≡ Report.Passed n → BundlePromise xs fill
+  pub promised : (n : ℕ) → auditBundleOf xs fill ≡ Report.Passed n → BundlePromise xs fill
   promised n e =
       let s = passed-sound n e in
       let i = imageIn xs fill (s .bundle) in
@@ -98,17 +112,22 @@ module _ (xs : List ℕ) (fill : ℕ) where
   at-entry b e s r k (NoPass.section n) = absurd (n s)
   at-entry b e s r k (NoPass.entry _ l f) = record { bundle = b; is = e; there = l; fault = f }
 
-  entry-fault : (r : Refusal) (k : ℕ) → auditBundleOf xs fill ≡ Report.Entry r k → FaultyEntry xs fill r k
+  pub entry-fault : (r : Refusal) (k : ℕ) → auditBundleOf xs fill ≡ Report.Entry r k → FaultyEntry xs fill r k
   entry-fault r k e = go (auditBundleOf xs fill) e reports
     where
       go : (x : Report) → x ≡ Report.Entry r k → Reports x → FaultyEntry xs fill r k
-      go x p Reports.refused = let z : _≡_ {A = ℕ} 0 1 = cc in absurd (omega arith)
-      go x p (Reports.passed f a) = let z : _≡_ {A = ℕ} 0 1 = cc in absurd (omega arith)
+      go x p (Reports.refused {r = s}) = fault-no-entry s r k p
+      go x p (Reports.passed {b = b} f a) = pass-no-entry (b .«index_bytes» / 8) r k p
       go x p (Reports.entry {b = b} {r = s} {k = j} f a) =
           let q : s ≡ r = cc in
           let l : j ≡ k = cc in
           at-entry b (f .is) (sections b (f .is) (f .fills .1)) r k (audit-refused (imageIn xs fill b) r k (rw (q, l) at a))
 
-  -- a report says all four
-  pub told : (r : Report) → r ≡ auditBundleOf xs fill → (r ≡ auditBundleOf xs fill) × (((n : ℕ) → (r ≡ Report.Passed n) ↔ SoundBundle xs fill n) × (((n : ℕ) → r ≡ Report.Passed n → BundlePromise xs fill) × ((f : Refusal) (k : ℕ) → r ≡ Report.Entry f k → FaultyEntry xs fill f k)))
-  told r e = (e, (λ n. (λ p. passed-sound n (sym e ∙ p), λ s. e ∙ sound-passed n s), (λ n p. promised n (sym e ∙ p), λ f k p. entry-fault f k (sym e ∙ p))))
+-- ---- the report on the two parts that are audited, by the verdict v on them
+pub report-on : (s i t : RefT (List ℕ)) (fill : ℕ) (b : Bundle) → bundleOf (now s) ≡ BundleRead.Is b → fillRule fill (b .«table_bytes») ≡ Check.Fine
+    → Part s i (partFrom (length (now s)) (b .index .0) (b .«index_bytes»)) → Part s t (partFrom (length (now s)) (b .table .0) (b .«table_bytes» - fill))
+    → (v w : Verdict) → v ≡ auditOf (image (now i) (b .«index_address») (now t) (b .«table_address»)) → v ≡ w → auditBundleOf (now s) fill ≡ reportedOf (b .«index_bytes» / 8) w
+report-on s i t fill b e f p q v w h k =
+    let o = bundle-placed (now s) b e in
+    let l = fill-exact fill (b .«table_bytes») .0 f .1 in
+    audit-read (now s) fill b e f _ _ (part-bytes _ _ _ _ (omega (arith, o .index, o .whole)) p) (part-bytes _ _ _ _ (omega (arith, o .table, o .whole)) q) v h ∙ ap (reportedOf (b .«index_bytes» / 8)) k

@@ -3,7 +3,7 @@ ghost use mathlib.Core.Path.{_≡_};
 ghost use mathlib.Core.Logic.{_↔_};
 ghost use Prim.Native.Nat.{ℕ};
 ghost use Rattle.section.specs.declared.Refusal.{Refusal};
-ghost use Rattle.bundle.specs.Audit.{fillRule, reportedOf, auditBundleOf};
+ghost use Rattle.bundle.specs.Audit.{fillRule, auditBundleOf};
 ghost use Rattle.bundle.specs.Bundle.{bundleOf};
 ghost use Rattle.bundle.specs.Promise.{SoundBundle, BundlePromise, FaultyEntry};
 use audit::Verdict;
@@ -58,16 +58,6 @@ pub enum Report {
     Fault(Refusal),
 }
 
-// The verdict on an index of `entries` entries. The sections of a bundle that was read pass, so a fault is an entry's.
-fn reported(entries: u32, verdict: Verdict) -> Report
-    ensures { λ r. ⌜ r ≡ reportedOf entries verdict ⌝ }
-{
-    match verdict {
-        Verdict::Passed => Report::Passed(entries),
-        Verdict::Fault(r, entry) => Report::Entry(r, entry),
-    }
-}
-
 // Whether the last `fill` bytes of a table can only fill its last word.
 fn fill_rule(fill: u32, table_bytes: u32) -> Check
     ensures { λ r. ⌜ r ≡ fillRule fill «table_bytes» ⌝ }
@@ -81,12 +71,13 @@ fn fill_rule(fill: u32, table_bytes: u32) -> Check
     Check::Fine
 }
 
-// Reads a bundle and audits its image, whose table ends before the bundle's last `fill` bytes.
+// Reads a bundle and audits its image, whose table ends before the bundle's last `fill` bytes. The sections of a bundle that was read pass, so a fault
+// of the audit is an entry's.
 pub fn audit_bundle(bytes: &[u8], fill: u32) -> Report
-    ensures answer { λ r. ⌜ r ≡ auditBundleOf (now (bytes .entry)) fill ⌝ }
-    ensures passes_exactly { λ r. ⌜ ((n : ℕ) → (r ≡ Report.Passed n) ↔ SoundBundle (now (bytes .entry)) fill n) ⌝ }
     ensures demand_three { λ r. ⌜ ((n : ℕ) → r ≡ Report.Passed n → BundlePromise (now (bytes .entry)) fill) ⌝ }
+    ensures passes_exactly { λ r. ⌜ ((n : ℕ) → (r ≡ Report.Passed n) ↔ SoundBundle (now (bytes .entry)) fill n) ⌝ }
     ensures entry_fault { λ r. ⌜ ((f : Refusal) (k : ℕ) → r ≡ Report.Entry f k → FaultyEntry (now (bytes .entry)) fill f k) ⌝ }
+    ensures answer { λ r. ⌜ r ≡ auditBundleOf (now (bytes .entry)) fill ⌝ }
 {
     match read_bundle(bytes) {
         BundleRead::Refused(r) => Report::Fault(r),
@@ -99,8 +90,10 @@ pub fn audit_bundle(bytes: &[u8], fill: u32) -> Report
                     b.table.0 as usize,
                     (b.table_bytes - fill) as usize,
                 );
-                let verdict = audit::audit(index, b.index_address, table, b.table_address);
-                reported(b.index_bytes / 8, verdict)
+                match audit::audit(index, b.index_address, table, b.table_address) {
+                    Verdict::Passed => Report::Passed(b.index_bytes / 8),
+                    Verdict::Fault(r, entry) => Report::Entry(r, entry),
+                }
             }
         },
     }

@@ -4,6 +4,7 @@ use mathlib.Core.Path.{_≡_, refl}
 use native.Mathlib.Omega.{arith}
 use lib.ListN.{length}
 use Rattle.section.specs.Check.{onCheck}
+use Rattle.section.specs.Number.{number}
 use Rattle.section.specs.Rule.{tableMost}
 use Rattle.section.specs.declared.Addr.{Addr}
 use Rattle.section.specs.declared.Off.{Off}
@@ -89,3 +90,16 @@ module _ (i : Image) where
 
     pub lookup-why : (r : Refusal) → lookupOf i c ≡ Looked.Refused r → NoLookup i r
     lookup-why r e = rw e at of-lookup
+
+-- in the paper's numbers: at most 11, and never 4, which is the audit's alone
+pub lookup-numbers : (i : Image) (r : Refusal) → NoLookup i r → (number r ≤ 11) × (number r ≡ 4 → ⊥)
+lookup-numbers i r (NoLookup.section _) = (omega arith, λ e. omega arith)
+lookup-numbers i r NoLookup.no-entry = (omega arith, λ e. omega arith)
+lookup-numbers i r NoLookup.corrupt = (omega arith, λ e. omega arith)
+lookup-numbers i r NoLookup.place = (omega arith, λ e. omega arith)
+lookup-numbers i r NoLookup.truncated = (omega arith, λ e. omega arith)
+lookup-numbers i r NoLookup.selector = (omega arith, λ e. omega arith)
+lookup-numbers i r NoLookup.encoding = (omega arith, λ e. omega arith)
+lookup-numbers i r NoLookup.value = (omega arith, λ e. omega arith)
+lookup-numbers i r NoLookup.sum = (omega arith, λ e. omega arith)
+lookup-numbers i r NoLookup.no-site = (omega arith, λ e. omega arith)

@@ -2,7 +2,7 @@
 use Rattle.section.specs.declared.Refusal.{Refusal}
 use Rattle.image.specs.Image.{Image, Sections}
 
--- 1 exactly where the sections do not pass
+-- 1 only where the sections do not pass
 pub data NoLookup (i : Image) : Refusal → Type 0 where
   section : (Sections i → ⊥) → NoLookup i Refusal.Section
   no-entry : NoLookup i Refusal.NoEntry

@@ -11,6 +11,7 @@ use lib.Dec.{leb, ltb, eqb}
 use borrow.Author.Tests.{ltb-true, ltb-false, leb-true, leb-false, eqb-true, eqb-false}
 use Rattle.section.specs.Pick.{pick}
 use Rattle.section.specs.Check.{onCheck}
+use Rattle.section.specs.Number.{number}
 use Rattle.section.specs.Rule.{indexRule, IndexSection}
 use Rattle.section.specs.declared.Addr.{Addr}
 use Rattle.section.specs.declared.Check.{Check}
@@ -233,3 +234,9 @@ module _ (xs : List ℕ) (a counter : Addr) (up : Rising xs a) where
       let b = ltb-true (counter .0) (F 0) t in
       SearchGives.none (search-below xs a counter passes n (functionOf xs a 0) (sound-at 0 (omega arith)) b) (λ j c. omega (arith, b, first j c)))
       (λ t. SearchGives.located (finds (omega arith) (ltb-false (counter .0) (F 0) t))))
+
+-- the reasons of a search in the paper's numbers: 1, 2 or 3
+pub hit-numbers : (len : ℕ) (a : Addr) (r : Refusal) → NoHit len a r → number r ≤ 3
+hit-numbers len a r (NoHit.section _) = omega arith
+hit-numbers len a r NoHit.no-entry = omega arith
+hit-numbers len a r NoHit.corrupt = omega arith

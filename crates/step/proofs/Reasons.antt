@@ -1,10 +1,11 @@
 -- Why a step is refused, put together as the definition is; and that a step in place leaves one answer. Assumes nothing.
-use Prim.Native.Nat.{ℕ, _*_, _%_}
+use Prim.Native.Nat.{ℕ, _*_, _%_, _≤_}
 use mathlib.Core.Path.{_≡_, refl, sym, ap, _∙_}
 use mathlib.Core.List.{List}
 use native.Mathlib.Omega.{arith}
 use lib.ListN.{length}
 use Rattle.section.specs.Check.{onCheck}
+use Rattle.section.specs.Number.{number}
 use Rattle.section.specs.Rule.{stackMost, stackRule}
 use Rattle.section.specs.declared.Addr.{Addr}
 use Rattle.section.specs.declared.Refusal.{Refusal}
@@ -107,3 +108,18 @@ pub stands-one : (m n : Moved) (core vfp core' vfp' : List ℕ) (x : Stepped) �
 stands-one m n core vfp core' vfp' x p q =
     let e = p ∙ sym q in
     (ap (λ (s : Stepped). s .arrival) e, ap (λ (s : Stepped). s .count) e, ap (λ (s : Stepped). s .registers .core) e, ap (λ (s : Stepped). s .registers .vfp) e)
+
+-- in the paper's numbers: at most 17, never 4, which is the audit's alone, and never 8 to 11, which are a lookup's
+pub step-numbers : (i : Image) (st : List ℕ) (base : Addr) (r : Refusal) → NoStep i st base r → (number r ≤ 17) × (number r ≡ 4 → ⊥) × (8 ≤ number r → number r ≤ 11 → ⊥)
+step-numbers i st base r (NoStep.section _) = (omega arith, λ e. omega arith, λ a b. omega arith)
+step-numbers i st base r NoStep.no-entry = (omega arith, λ e. omega arith, λ a b. omega arith)
+step-numbers i st base r NoStep.corrupt = (omega arith, λ e. omega arith, λ a b. omega arith)
+step-numbers i st base r NoStep.place = (omega arith, λ e. omega arith, λ a b. omega arith)
+step-numbers i st base r NoStep.truncated = (omega arith, λ e. omega arith, λ a b. omega arith)
+step-numbers i st base r NoStep.selector = (omega arith, λ e. omega arith, λ a b. omega arith)
+step-numbers i st base r NoStep.refused = (omega arith, λ e. omega arith, λ a b. omega arith)
+step-numbers i st base r NoStep.reserved = (omega arith, λ e. omega arith, λ a b. omega arith)
+step-numbers i st base r NoStep.unsupported = (omega arith, λ e. omega arith, λ a b. omega arith)
+step-numbers i st base r NoStep.malformed = (omega arith, λ e. omega arith, λ a b. omega arith)
+step-numbers i st base r NoStep.regs = (omega arith, λ e. omega arith, λ a b. omega arith)
+step-numbers i st base r NoStep.stack = (omega arith, λ e. omega arith, λ a b. omega arith)

@@ -7,7 +7,7 @@ use Rattle.section.specs.declared.Addr.{Addr}
 use Rattle.section.specs.declared.Refusal.{Refusal}
 use Rattle.image.specs.Image.{Image, Sections}
 
--- 1 exactly where a section or the stack does not pass
+-- 1 only where a section or the stack does not pass
 pub data NoStep (i : Image) (st : List ℕ) (base : Addr) : Refusal → Type 0 where
   section : ((Sections i × Section stackMost (length st) base) → ⊥) → NoStep i st base Refusal.Section
   no-entry : NoStep i st base Refusal.NoEntry

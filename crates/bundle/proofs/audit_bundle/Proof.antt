@@ -1,9 +1,8 @@
--- Both sections lie in the bundle that was read, so the image that is audited is the bundle's without its fill; what is promised follows from the report. Assumes nothing.
-use Rattle.bundle.proofs.Promise.{told}
-use Rattle.bundle.proofs.Laws.{fill-exact, audit-refused, audit-filled, audit-read}
-use Rattle.bundle.proofs.Placed.{bundle-placed, part-bytes}
-use native.Mathlib.Omega.{arith}
+-- Both sections lie in the bundle that was read, so the image that is audited is the bundle's without its fill. Each clause is shown by itself. Assumes nothing.
+use Rattle.bundle.proofs.Promise.{fault-no-pass, fault-no-entry, pass-no-entry, entry-no-pass, passed-sound, sound-passed, promised, entry-fault, report-on}
+use Rattle.bundle.proofs.Laws.{fill-exact, audit-refused, audit-filled}
 use mathlib.Core.Path.{sym, _∙_}
+use native.Mathlib.Omega.{arith}
 use borrow.Author.Needs.{needs}
 use Rattle.bundle.proofs.audit_bundle.Statement.{statement}
 use Rattle.bundle.proofs.audit_bundle.Tie as tie
@@ -50,22 +49,29 @@ part-requires-2 c κs = search needs
 audit-requires : tie.Need-audit-requires
 audit-requires c κs = search needs
 
-reported-requires : tie.Need-reported-requires
-reported-requires c κs = search needs
+enum-told-2 : tie.Need-enum-told-2
+enum-told-2 c = search needs
+
+enum-known-r-3 : tie.Need-enum-known-r-3
+enum-known-r-3 c = search needs
 
 returns : tie.Need-returns
-returns c = told _ _ _ (sym (audit-refused _ _ _ (sym (c .before .before .before .read-bundle .ensures) ∙ c .before .r .given .1)))
+returns c = let e = audit-refused _ _ _ (sym (c .before .before .before .read-bundle .ensures) ∙ c .before .r .given .1) in
+    (λ n p. fault-no-pass _ n p, (λ n. (λ p. fault-no-pass _ n p, λ s. fault-no-pass _ n (sym e ∙ sound-passed _ _ n s)), (λ f k p. fault-no-entry _ f k p, sym e)))
 
 returns-2 : tie.Need-returns-2
-returns-2 c = told _ _ _ (sym (audit-filled _ _ _ (sym (c .before .before .before .before .before .before .before .read-bundle .ensures) ∙ c .before .before .before .before .before .b .given .1) _ (sym (c .before .before .before .fill-rule .ensures) ∙ c .before .r2 .given .1)))
+returns-2 c = let e = audit-filled _ _ _ (sym (c .before .before .before .before .before .before .before .read-bundle .ensures) ∙ c .before .before .before .before .before .b .given .1) _ (sym (c .before .before .before .fill-rule .ensures) ∙ c .before .r2 .given .1) in
+    (λ n p. fault-no-pass _ n p, (λ n. (λ p. fault-no-pass _ n p, λ s. fault-no-pass _ n (sym e ∙ sound-passed _ _ n s)), (λ f k p. fault-no-entry _ f k p, sym e)))
 
 returns-3 : tie.Need-returns-3
 returns-3 c =
-    let e = sym (c .before .before .before .before .before .before .before .before .before .before .before .before .before .before .before .read-bundle .ensures) ∙ c .before .before .before .before .before .before .before .before .before .before .before .before .before .b .given .1 in
-    let f = sym (c .before .before .before .before .before .before .before .before .before .before .before .fill-rule .ensures) ∙ c .before .before .before .before .before .before .before .before .before .enum-told .given .1 in
-    let p = bundle-placed _ _ e in
-    let l = fill-exact _ _ .0 f .1 in
-    told _ _ _ (c .reported .ensures ∙ sym (audit-read _ _ _ e f _ _ (part-bytes _ _ _ _ (omega (arith, p .index, p .whole)) (c .before .before .before .before .before .before .part .ensures)) (part-bytes _ _ _ _ (omega (arith, p .table, p .whole)) (c .before .before .before .part2 .ensures)) _ (c .before .before .audit .ensures .1 .1)))
+    let e = report-on _ _ _ _ _ (sym (c .before .before .before .before .before .before .before .before .before .before .before .before .before .before .before .before .read-bundle .ensures) ∙ c .before .before .before .before .before .before .before .before .before .before .before .before .before .before .b .given .1) (sym (c .before .before .before .before .before .before .before .before .before .before .before .before .fill-rule .ensures) ∙ c .before .before .before .before .before .before .before .before .before .before .enum-told .given .1) (c .before .before .before .before .before .before .before .part .ensures) (c .before .before .before .before .part2 .ensures) _ _ (c .before .before .before .audit .ensures .1 .1) (c .before .enum-told2 .given .1) in
+    (λ n p. promised _ _ _ e, (λ n. (λ p. passed-sound _ _ n (e ∙ p), λ s. sym e ∙ sound-passed _ _ n s), (λ f k p. pass-no-entry _ f k p, sym e)))
+
+returns-4 : tie.Need-returns-4
+returns-4 c =
+    let e = report-on _ _ _ _ _ (sym (c .before .before .before .before .before .before .before .before .before .before .before .before .before .before .before .before .read-bundle .ensures) ∙ c .before .before .before .before .before .before .before .before .before .before .before .before .before .before .b .given .1) (sym (c .before .before .before .before .before .before .before .before .before .before .before .before .fill-rule .ensures) ∙ c .before .before .before .before .before .before .before .before .before .before .enum-told .given .1) (c .before .before .before .before .before .before .before .part .ensures) (c .before .before .before .before .part2 .ensures) _ _ (c .before .before .before .audit .ensures .1 .1) (c .before .r3 .given .1) in
+    (λ n p. entry-no-pass _ _ n p, (λ n. (λ p. entry-no-pass _ _ n p, λ s. entry-no-pass _ _ n (sym e ∙ sound-passed _ _ n s)), (λ f k p. entry-fault _ _ f k (e ∙ p), sym e)))
 
 pub audit-bundle-spec : {M : Type 1} → statement M
 audit-bundle-spec =
@@ -85,7 +91,9 @@ audit-bundle-spec =
     cast-part-4
     part-requires-2
     audit-requires
-    reported-requires
+    enum-told-2
+    enum-known-r-3
     returns
     returns-2
-    returns-3)
+    returns-3
+    returns-4)
