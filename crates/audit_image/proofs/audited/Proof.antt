@@ -20,7 +20,7 @@ printed-requires c κs = search needs
 
 returns : tie.Need-returns
 returns c = (
-  λ input e. c .printed .ensures .0 ∙ ap lineOf (c .before .audit-bundle .ensures .0 ∙ ap (λ (l : List ℕ). auditBundleOf l (c .before .before .before .before .args .fill)) e ∙ audit-same input _ _ (c .before .before .before .before .pre .0)),
+  λ input e. c .printed .ensures .0 ∙ ap lineOf (c .before .audit-bundle .ensures .1 .1 .1 ∙ ap (λ (l : List ℕ). auditBundleOf l (c .before .before .before .before .args .fill)) e ∙ audit-same input _ _ (c .before .before .before .before .pre .0)),
   c .printed .ensures .1,
 )
 
