@@ -25,6 +25,9 @@ uint32_t anrukfal_plus(uint32_t a, uint32_t by, uint32_t row[1]);
 /* row: the word */
 uint32_t anrukfal_word(const uint8_t *bytes, size_t len, uint32_t at, uint32_t row[1]);
 
+/* row: how many bytes the language data of the table entry at an offset has, and the one at a position, 0 past its end */
+uint32_t anrukfal_language(const uint8_t *table, size_t len, uint32_t table_address, uint32_t offset, size_t at, uint64_t row[2]);
+
 /* row: whether a byte is there, the byte. `at` counts in the order of the instruction bytes. */
 uint32_t anrukfal_byte(const uint8_t *words, size_t len, uint32_t at, uint32_t row[2]);
 

@@ -1,12 +1,12 @@
 //! The library against the Rust, on the domain that the paper states.
 use crate::compare_readers;
-use oracle::anrukfal::{self, Answer, Instruction, Read, Refusal, Section};
+use oracle::anrukfal::{self, Answer, Instruction, Read, Refusal, Section, TableEntry};
 use oracle::memory::{address, Arena};
 use oracle::parted::{self, Sites, Why};
 use oracle::random::Random;
 use oracle::tally::{hex, number, Tally};
 use oracle::unwind::unw_table::probe::Walk;
-use oracle::{cases, original, plain};
+use oracle::{cases, original, plain, readers};
 
 pub fn all() -> Vec<Tally> {
     let mut arenas = Arena::all();
@@ -181,14 +181,30 @@ fn index_entries(arenas: &mut [Arena]) -> Tally {
 }
 
 fn table_case(t: &mut Tally, table: &[u8], offset: usize) {
-    let ours = anrukfal::table_entry(Section { bytes: table, address: address(table) }, offset as u32);
+    let section = Section { bytes: table, address: address(table) };
+    let at = table.len() % 9;
+    let ours = (anrukfal::table_entry(section, offset as u32), readers::language(section, offset as u32, at));
     let show = || format!("offset {offset} of {} at {:x}", hex(table), address(table));
     match original::table_entry(table, offset) {
         Some(there) => {
             t.number(number(&there));
-            t.same(ours, there, table.len(), show)
+            t.same(ours, (there, language(table, there, at)), table.len(), show)
         }
-        None => t.left_out(Why::PastTable, ours, Err(Refusal::Truncated), table.len(), show),
+        None => {
+            let short = Err(Refusal::Truncated);
+            t.left_out(Why::PastTable, ours, (short, language(table, short, at)), table.len(), show)
+        }
+    }
+}
+
+// The language data behind an entry: its length and the byte at a position.
+fn language(table: &[u8], entry: Answer<TableEntry>, at: usize) -> (u32, [u64; 2]) {
+    match entry {
+        Ok(e) => {
+            let data = &table[e.language as usize..];
+            (0, [data.len() as u64, data.get(at).copied().unwrap_or(0) as u64])
+        }
+        Err(refusal) => (refusal.number(), [0; 2]),
     }
 }
 

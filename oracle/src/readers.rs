@@ -52,6 +52,7 @@ pub mod raw {
         pub fn anrukfal_offset(section: u32, len: usize, address: u32, row: *mut [u32; 1]) -> u32;
         pub fn anrukfal_plus(a: u32, by: u32, row: *mut [u32; 1]) -> u32;
         pub fn anrukfal_word(bytes: *const u8, len: usize, at: u32, row: *mut [u32; 1]) -> u32;
+        pub fn anrukfal_language(table: *const u8, len: usize, table_address: u32, offset: u32, at: usize, row: *mut [u64; 2]) -> u32;
         pub fn anrukfal_byte(words: *const u8, len: usize, at: u32, row: *mut [u32; 2]) -> u32;
         pub fn anrukfal_function(index: *const u8, len: usize, index_address: u32, number: u32, row: *mut [u32; 1]) -> u32;
         pub fn anrukfal_content(index: *const u8, len: usize, index_address: u32, number: u32, row: *mut [u32; 5]) -> u32;
@@ -106,6 +107,13 @@ pub fn word(bytes: &[u8], at: u32) -> Answer<u32> {
     let mut row = [0];
     let number = unsafe { raw::anrukfal_word(bytes.as_ptr(), bytes.len(), at, &mut row) };
     answer(number, || row[0])
+}
+
+/// How many bytes the language data of the entry at an offset has, and the one at a position, 0 past its end. A refusal has none.
+pub fn language(table: Section, offset: u32, at: usize) -> (u32, [u64; 2]) {
+    let mut row = [1; 2];
+    let number = unsafe { raw::anrukfal_language(table.bytes.as_ptr(), table.bytes.len(), table.address, offset, at, &mut row) };
+    (number, row)
 }
 
 /// The instruction byte at a position; none at the end.

@@ -2,7 +2,9 @@
 -- index, 2 compact in the table, 3 generic, 4 leads to the table. A field that its kind does not use is 0.
 use Prim.Native.Nat.{ℕ}
 use mathlib.Core.List.{List, [], _∷_}
+use lib.ListN.{length, getD}
 use Rattle.section.specs.Answer.{Answer, given, refused}
+use Rattle.entry.specs.Parts.{languageIn}
 use Rattle.entry.specs.declared.Personality.{Personality}
 use Rattle.entry.specs.declared.Content.{Content}
 use Rattle.entry.specs.declared.TableEntry.{TableEntry}
@@ -48,3 +50,8 @@ indexAnswer (IndexRead.Refused r) = refused 6 r
 abbrev pub tableAnswer : TableRead → Answer
 tableAnswer (TableRead.Entry e) = given (tableRow e)
 tableAnswer (TableRead.Refused r) = refused 6 r
+
+-- of the language data in a table: how many bytes it has, and the one at a position, 0 past its end
+abbrev pub languageAnswer : List ℕ → ℕ → TableRead → Answer
+languageAnswer ys at (TableRead.Entry e) = given (length (languageIn ys (e .language)) ∷ getD (languageIn ys (e .language)) at 0 ∷ [])
+languageAnswer ys at (TableRead.Refused r) = refused 2 r

@@ -8,8 +8,10 @@ ghost use Rattle.section.specs.Sum.{plusOf};
 ghost use Rattle.section.specs.Word.{wordAt};
 ghost use Rattle.instruction.specs.Answers.{byteAnswer};
 ghost use Rattle.instruction.specs.Bytes.{byteOf};
-ghost use Rattle.entry.specs.Answers.{functionAnswer, contentAnswer};
+ghost use lib.ListN.{getD};
+ghost use Rattle.entry.specs.Answers.{functionAnswer, contentAnswer, languageAnswer};
 ghost use Rattle.entry.specs.Index.{functionAt, contentAt};
+ghost use Rattle.entry.specs.Table.{tableEntryOf};
 ghost use Rattle.lsda.specs.Answers.{headerAnswer, siteReadAnswer};
 ghost use Rattle.lsda.specs.Header.{headerOf};
 ghost use Rattle.lsda.specs.Site.{siteAt};
@@ -19,6 +21,7 @@ ghost use Rattle.walker.specs.Answers.{walkedByteAnswer, walkedInstructionAnswe
 ghost use Rattle.walker.specs.Walker.{walkedByte, walkedInstruction};
 use entry::ContentRead;
 use entry::FunctionRead;
+use entry::TableRead;
 use image::Found;
 use instruction::Byte;
 use instruction::Decoded;
@@ -99,6 +102,36 @@ pub extern "C" fn anrukfal_word(bytes: &[u8], at: u32, row: &mut [u32; 1]) -> u3
             *row = [0];
             Refusal::Truncated.number()
         }
+    }
+}
+
+// The byte at a position, 0 past the end.
+fn byte_or_zero(data: &[u8], at: usize) -> u64
+    ensures { λ r. ⌜ r ≡ getD (now («data» .entry)) at 0 ⌝ }
+{
+    if at < data.len() {
+        section::wide(data[at])
+    } else {
+        0
+    }
+}
+
+// How many bytes the language data of the table entry at an offset has, and the one at a position.
+#[no_mangle]
+pub extern "C" fn anrukfal_language(
+    table: &[u8],
+    table_address: u32,
+    offset: u32,
+    at: usize,
+    row: &mut [u64; 2],
+) -> u32
+    ensures { λ r. ⌜ Told (languageAnswer (now (table .entry)) at (tableEntryOf (now (table .entry)) (addr «table_address») (off offset))) r (now (row .exit)) ⌝ }
+{
+    let data = entry::language_data(table, Addr(table_address), Off(offset));
+    *row = [data.len() as u64, byte_or_zero(data, at)];
+    match entry::table_entry(table, Addr(table_address), Off(offset)) {
+        TableRead::Entry(_) => 0,
+        TableRead::Refused(r) => r.number(),
     }
 }
 
