@@ -34,12 +34,13 @@ fn halved(index: &[u8], index_address: Addr, counter: Addr, first: Addr, entries
     let mut probes: u32 = 1;
     while 1 < high - low {
         let middle = (low + high) / 2;
-        let at = Off(8 * middle);
-        let w = section::word_or_zero(index, at);
+        let o = 8 * middle as usize;
+        // Of the entry's own 8 bytes the compiler sees that the word is there.
+        let w = section::word_or_zero(&index[o..o + 8], Off(0));
         if 0x8000_0000 <= w {
             return Searched::Refused(Refusal::Corrupt);
         }
-        let f = section::prel31(w, section::address_of(index_address, at));
+        let f = section::prel31(w, section::address_of(index_address, Off(8 * middle)));
         probes = probes + 1;
         if f.0 <= counter.0 {
             low = middle;

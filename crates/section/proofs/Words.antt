@@ -1,10 +1,11 @@
 -- Laws of little-endian words: what a crate above cites, so that it never unfolds `wordAt`. Assumes nothing.
-use mathlib.Core.Path.{_≡_, sym, _∙_}
+use mathlib.Core.Path.{_≡_, refl, sym, _∙_}
 use mir.Val.{Fits}
 use mir.Syntax.{w8}
-use Prim.Native.Nat.{ℕ, _+_, _≤_, _<_}
+use Prim.Native.Nat.{ℕ, _+_, _-_, _≤_, _<_}
 use mathlib.Core.List.{List}
-use lib.ListN.{length, getD}
+use lib.ListN.{length, getD, take, drop, length-drop}
+use lib.Seq.{getD-take, getD-drop, length-take-le}
 use lib.Dec.{leb}
 use native.Mathlib.Nat.{add-zero}
 use native.Mathlib.Omega.{arith}
@@ -50,6 +51,19 @@ module _ (xs : List ℕ) (o : ℕ) where
 
   pub word-or-short : wordAt xs o ≡ Short → wordOrZero xs o ≡ 0
   word-or-short e = word-zero (word-gone e)
+
+  first-of : (n : ℕ) → o + n ≤ length xs → 4 ≤ n → wordOrZero (take n (drop o xs)) 0 ≡ word xs o
+  unfolding wordOrZero word
+  first-of n h g =
+      let k : n ≤ length xs - o = omega arith in
+      let e : length (take n (drop o xs)) ≡ n = length-take-le n (drop o xs) (rw (length-drop o xs) k) in
+      rw (le-leb 4 (length (take n (drop o xs))) (omega arith))
+      (rw (getD-take n (drop o xs) 0 0 (omega arith), getD-take n (drop o xs) 1 0 (omega arith), getD-take n (drop o xs) 2 0 (omega arith), getD-take n (drop o xs) 3 0 (omega arith))
+      (rw (getD-drop o xs 0 0, getD-drop o xs 1 0, getD-drop o xs 2 0, getD-drop o xs 3 0) refl))
+
+  -- of the part of n bytes from o on: its first word is the whole's, there
+  pub word-first : (n : ℕ) → o + n ≤ length xs → 4 ≤ n → wordOrZero (take (o + n - o) (drop o xs)) 0 ≡ word xs o
+  word-first n h g = let e : o + n - o ≡ n = omega arith in rw e (first-of n h g)
 
   -- the four bytes there, each below 256, are the word's digits
   pub word-bytes : ((i : ℕ) → Fits w8 (getD xs i 0)) → le32 (getD xs o 0) (getD xs (o + 1) 0) (getD xs (o + 2) 0) (getD xs (o + 3) 0) ≡ word xs o
