@@ -1,4 +1,6 @@
 // The C library: each call returns the refusal's number, 0 for none, and fills its row, all zero at a refusal.
+#![tactic(auto)]
+
 ghost use Rattle.std.specs.Prelude.{◌≡◌, ◌↔◌};
 ghost use Rattle.section.specs.Answer.{Told};
 ghost use Rattle.section.specs.Place.{addr, off};

@@ -1,4 +1,6 @@
 // The audit of a whole image.
+#![tactic(auto)]
+
 ghost use Rattle.std.specs.Prelude.{◌≡◌, ◌↔◌, ◌≤◌, ◌<◌, length};
 ghost use Rattle.section.specs.Rule.{index_most};
 ghost use Rattle.image.specs.Image.{image, count_of};
@@ -11,14 +13,14 @@ use image::Found;
 use section::{Addr, Check, Refusal};
 
 // A fault names its entry, 0 for a section's.
-#[derive(Drop)]
+#[derive(Clone, Copy)]
 pub enum Verdict {
     Passed,
     Fault(Refusal, u32),
 }
 
 // The first fault of the entries, and whose it is.
-#[derive(Drop)]
+#[derive(Clone, Copy)]
 enum FirstFault {
     None,
     At(Refusal, u32),

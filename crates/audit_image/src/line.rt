@@ -9,7 +9,7 @@ use bundle::Report;
 pub(crate) const ROOM: usize = 37;
 
 // The first `len` bytes are written.
-#[derive(Drop)]
+#[derive(Clone, Copy)]
 pub(crate) struct Line {
     pub bytes: [u8; ROOM],
     pub len: usize,

@@ -1,5 +1,7 @@
 // Audits the bundle on standard input and prints one line: ok N, fault R at entry I, or fault R. With an argument 1, 2 or 3, so many bytes at the end
 // of the bundle's table only fill its last word, and are no part of the table that is audited.
+#![tactic(auto)]
+
 ghost use Rattle.std.specs.Prelude.{◌≡◌, ◌<◌, length};
 ghost use Rattle.io.specs.Counts.{IsPrefixLen};
 ghost use Rattle.bundle.specs.Bundle.{most_bytes};

@@ -1,4 +1,6 @@
 // A bundle: two addresses, the index and the table, each section after its count.
+#![tactic(auto)]
+
 ghost use Rattle.std.specs.Prelude.{◌≡◌, ◌↔◌, ℕ};
 ghost use Rattle.section.specs.declared.Refusal.{Refusal};
 ghost use Rattle.bundle.specs.Audit.{fill_rule, audit_bundle_of};
@@ -11,7 +13,7 @@ use section::{Addr, Check, Off, Refusal, Word};
 mod read;
 
 // Where a bundle's sections are meant to stand, and where they lie in it.
-#[derive(Drop)]
+#[derive(Clone, Copy)]
 pub struct Bundle {
     pub index_address: Addr,
     pub table_address: Addr,
@@ -21,7 +23,7 @@ pub struct Bundle {
     pub table_bytes: u32,
 }
 
-#[derive(Drop)]
+#[derive(Clone, Copy)]
 pub enum BundleRead {
     Is(Bundle),
     Refused(Refusal),
@@ -49,7 +51,7 @@ pub fn read_bundle(bytes: &[u8]) -> BundleRead
 }
 
 // What the audit of a bundle says: the entries of one that passes; a fault of an entry; or a fault of the bundle or of a section.
-#[derive(Drop)]
+#[derive(Clone, Copy)]
 pub enum Report {
     Passed(u32),
     Entry(Refusal, u32),

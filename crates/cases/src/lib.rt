@@ -1,4 +1,6 @@
 // Runs cases that a text lists, one to a line: each line is written again with its answer, the refusal's number and the row, in hex.
+#![tactic(auto)]
+
 use crate::text::ROOM;
 
 mod images;

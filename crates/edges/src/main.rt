@@ -1,4 +1,6 @@
 // Runs the cases that standard input lists and writes each with its answer.
+#![tactic(auto)]
+
 fn main() {
     cases::run();
 }

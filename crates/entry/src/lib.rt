@@ -1,4 +1,6 @@
 // Entries of the index and of the table, and the parts of the two sections that they name.
+#![tactic(auto)]
+
 ghost use Rattle.std.specs.Prelude.{◌≡◌, length};
 ghost use Rattle.section.specs.View.{Part};
 ghost use Rattle.entry.specs.Index.{function_at, content_at, index_entry_of};
@@ -11,21 +13,21 @@ mod table;
 use section::{Addr, Check, Off, Refusal, Word};
 
 // Who unwinds.
-#[derive(Drop)]
+#[derive(Clone, Copy)]
 pub enum Personality {
     Compact(u8),
     Generic(Addr),
 }
 
 // The section that holds some instruction words.
-#[derive(Drop)]
+#[derive(Clone, Copy)]
 pub enum Held {
     Index,
     Table,
 }
 
 // Instruction words: the section, the offset of the first, how many, and how many bytes of the first are skipped.
-#[derive(Drop)]
+#[derive(Clone, Copy)]
 pub struct Span {
     pub held: Held,
     pub at: Off,
@@ -34,45 +36,45 @@ pub struct Span {
 }
 
 // What an index entry says of its function.
-#[derive(Drop)]
+#[derive(Clone, Copy)]
 pub enum Content {
     CannotUnwind,
     Compact(Personality, Span),
     Table(Addr),
 }
 
-#[derive(Drop)]
+#[derive(Clone, Copy)]
 pub struct IndexEntry {
     pub function: Addr,
     pub content: Content,
 }
 
-#[derive(Drop)]
+#[derive(Clone, Copy)]
 pub enum IndexRead {
     Entry(IndexEntry),
     Refused(Refusal),
 }
 
-#[derive(Drop)]
+#[derive(Clone, Copy)]
 pub enum FunctionRead {
     At(Addr),
     Refused(Refusal),
 }
 
-#[derive(Drop)]
+#[derive(Clone, Copy)]
 pub enum ContentRead {
     Is(Content),
     Refused(Refusal),
 }
 
-#[derive(Drop)]
+#[derive(Clone, Copy)]
 pub struct TableEntry {
     pub personality: Personality,
     pub span: Span,
     pub language: Off,
 }
 
-#[derive(Drop)]
+#[derive(Clone, Copy)]
 pub enum TableRead {
     Entry(TableEntry),
     Refused(Refusal),

@@ -1,4 +1,6 @@
 // An image, that is an index and a table where they stand: its section rules, and what an entry leads to.
+#![tactic(auto)]
+
 ghost use Rattle.std.specs.Prelude.{◌≡◌};
 ghost use Rattle.entry.specs.Table.{table_entry_of};
 ghost use Rattle.image.specs.Image.{image, sections_of, selector_in, from_table, from_content, led_in, led_by, entry_at};
@@ -7,7 +9,7 @@ use entry::{Content, ContentRead, FunctionRead, Personality, Span, TableRead};
 use section::{Addr, Check, Off, Place, Refusal};
 
 // What an entry leads to: its function; a selector and words; or a personality's address, words, and where the language data begins.
-#[derive(Drop)]
+#[derive(Clone, Copy)]
 pub enum Found {
     CannotUnwind(Addr),
     Compact(Addr, u8, Span),

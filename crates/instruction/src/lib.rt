@@ -1,4 +1,6 @@
 // The bytes of unwind instructions, and the instructions that they say.
+#![tactic(auto)]
+
 ghost use Rattle.std.specs.Prelude.{◌≡◌, ◌↔◌};
 ghost use Rattle.instruction.specs.Bytes.{byte_of};
 ghost use Rattle.instruction.specs.Decode.{decode_of};
@@ -12,14 +14,14 @@ mod ranges;
 mod uleb;
 
 // What stands at a position of the instruction bytes.
-#[derive(Drop)]
+#[derive(Clone, Copy)]
 pub enum Byte {
     Is(u8),
     End,
     Refused(Refusal),
 }
 
-#[derive(Drop)]
+#[derive(Clone, Copy)]
 pub enum Instruction {
     DataPop(u32),
     DataPush(u32),
@@ -34,7 +36,7 @@ pub enum Instruction {
 }
 
 // An instruction with the position after it, the end of the bytes, or why these are no instruction words.
-#[derive(Drop)]
+#[derive(Clone, Copy)]
 pub enum Decoded {
     Step(Instruction, u32),
     End,

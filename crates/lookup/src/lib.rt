@@ -1,4 +1,6 @@
 // Lookup: from a counter to its entry, and to the call site of a generic one. No instruction is read.
+#![tactic(auto)]
+
 ghost use Rattle.std.specs.Prelude.{◌≡◌};
 ghost use Rattle.image.specs.Image.{image};
 ghost use Rattle.lookup.specs.Lookup.{looked_at, lookup_of};
@@ -10,7 +12,7 @@ use search::Searched;
 use section::{Addr, Check, Refusal};
 
 // The entry's number and its function's address, with what it leads to.
-#[derive(Drop)]
+#[derive(Clone, Copy)]
 pub enum Looked {
     CannotUnwind(u32, Addr),
     Compact(u32, Addr, Held, u8),

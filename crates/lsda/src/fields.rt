@@ -9,7 +9,7 @@ use pointer::Read;
 use section::{Addr, Off, Refusal};
 
 // A byte and the place after it.
-#[derive(Drop)]
+#[derive(Clone, Copy)]
 pub(crate) enum ByteRead {
     Byte(u8, Off),
     Refused(Refusal),
@@ -28,7 +28,7 @@ pub(crate) fn byte_at(data: &[u8], at: Off) -> ByteRead
 }
 
 // A base and the place after it.
-#[derive(Drop)]
+#[derive(Clone, Copy)]
 pub(crate) enum Based {
     On(Addr, Off),
     Refused(Refusal),
@@ -93,7 +93,7 @@ pub(crate) fn table_at(data: &[u8], base: Addr, at: Off) -> HeaderRead
 }
 
 // Two values in a row and the place after them.
-#[derive(Drop)]
+#[derive(Clone, Copy)]
 pub(crate) enum Pair {
     Of(u32, u32, Off),
     Refused(Refusal),

@@ -1,4 +1,6 @@
 // The language data of a generic entry: its header, its call sites, the one that covers a counter, and the audit of all.
+#![tactic(auto)]
+
 ghost use Rattle.std.specs.Prelude.{◌≡◌, ◌↔◌};
 ghost use Rattle.lsda.specs.Header.{header_of};
 ghost use Rattle.lsda.specs.Site.{site_at};
@@ -12,7 +14,7 @@ mod fields;
 mod sites;
 
 // Where call sites count from, how they are written, and where they stand: from `start` to below `end`.
-#[derive(Drop)]
+#[derive(Clone, Copy)]
 pub struct Header {
     pub base: Addr,
     pub encoding: u8,
@@ -20,14 +22,14 @@ pub struct Header {
     pub end: u64,
 }
 
-#[derive(Drop)]
+#[derive(Clone, Copy)]
 pub enum HeaderRead {
     Is(Header),
     Refused(Refusal),
 }
 
 // A call site as it is read: what it covers, and its pad and action as they are written.
-#[derive(Drop)]
+#[derive(Clone, Copy)]
 pub struct Site {
     pub start: Addr,
     pub end: Addr,
@@ -36,7 +38,7 @@ pub struct Site {
 }
 
 // A call site and the place after it, or that the table ends, or why there is none.
-#[derive(Drop)]
+#[derive(Clone, Copy)]
 pub enum SiteRead {
     Is(Site, Off),
     Done,
@@ -44,21 +46,21 @@ pub enum SiteRead {
 }
 
 // Where control lands.
-#[derive(Drop)]
+#[derive(Clone, Copy)]
 pub enum Pad {
     None,
     At(Addr),
 }
 
 // The record that says what is done there.
-#[derive(Drop)]
+#[derive(Clone, Copy)]
 pub enum Action {
     None,
     Record(u32),
 }
 
 // A call site as an answer: what it covers, with the sums of its pad and action.
-#[derive(Drop)]
+#[derive(Clone, Copy)]
 pub struct CallSite {
     pub start: Addr,
     pub end: Addr,
@@ -66,7 +68,7 @@ pub struct CallSite {
     pub action: Action,
 }
 
-#[derive(Drop)]
+#[derive(Clone, Copy)]
 pub enum SiteFound {
     Is(CallSite),
     Refused(Refusal),

@@ -1,4 +1,6 @@
 // The LEB reader and the pointer reader: every input gets an answer.
+#![tactic(auto)]
+
 ghost use Rattle.std.specs.Prelude.{◌≡◌};
 ghost use Rattle.pointer.specs.Pointer.{uleb_of, sleb_of, pointer_of};
 
@@ -9,7 +11,7 @@ mod leb;
 mod number;
 
 // A value and the place after it, or why there is none.
-#[derive(Drop)]
+#[derive(Clone, Copy)]
 pub enum Read {
     Value(u32, Off),
     Refused(Refusal),

@@ -6,7 +6,7 @@ use crate::Read;
 use section::{Off, Refusal};
 
 // The number that the digits are, half of the power of the base that it lies below, and the place after it; or why there is none.
-#[derive(Drop)]
+#[derive(Clone, Copy)]
 pub(crate) enum Number {
     Found(u64, u64, Off),
     Refused(Refusal),

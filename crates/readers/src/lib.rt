@@ -1,5 +1,7 @@
 // The readers that the C library's calls are made of, exported to C one call each, for tests and tools.
 // Each call returns the refusal's number, 0 for none, and fills its row, all zero at a refusal.
+#![tactic(auto)]
+
 ghost use Rattle.std.specs.Prelude.{◌≡◌, slice_index};
 ghost use Rattle.section.specs.Answer.{Told};
 ghost use Rattle.section.specs.Answers.{check_answer, offset_answer, sum_answer, word_answer};

@@ -1,4 +1,6 @@
 // The search of the index: the entry whose function is at or below a counter, by halving.
+#![tactic(auto)]
+
 ghost use Rattle.std.specs.Prelude.{◌≡◌, ◌/◌, length};
 ghost use Rattle.section.specs.Rule.{index_rule};
 ghost use Rattle.section.specs.declared.Check.{Check};
@@ -8,14 +10,14 @@ use entry::FunctionRead;
 use section::{Addr, Check, Off, Refusal};
 
 // The entry's number, its function, which was read on the way, and how many function words were read.
-#[derive(Drop)]
+#[derive(Clone, Copy)]
 pub struct Hit {
     pub entry: u32,
     pub function: Addr,
     pub probes: u32,
 }
 
-#[derive(Drop)]
+#[derive(Clone, Copy)]
 pub enum Searched {
     Found(Hit),
     Refused(Refusal),

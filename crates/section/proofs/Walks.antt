@@ -71,6 +71,7 @@ module _ {A : Type 0} (P : A → Type 0) (f : A → Check) (same : (a : A) → (
       go Look.done e s h = refl
       go (Look.last a) e (Sound.at_last p) h = fine_and (f a) Fine ((same a).1 p) refl
       go (Look.item a m) e (Sound.at_item p) h = fine_and (f a) _ ((same a).1 p) (h m (λ q r. c q (Reached.onward e r)))
+      go (Look.bad r) e s h = elim s [ ]
 
   passes_clean : (limit : ℕ) → Upward look limit → (k at : ℕ) → Enough limit at k → checked f (trail_from Trail.end k look at) ≡ Fine → Clean P look at
   unfolding trail_from checked

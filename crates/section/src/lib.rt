@@ -1,4 +1,6 @@
 // What all crates share: refusals, addresses and offsets, the section rule, little-endian words, prel31, sums that must fit, and views.
+#![tactic(auto)]
+
 ghost use Rattle.std.specs.Prelude.{◌≡◌, length};
 ghost use Rattle.section.specs.Number.{number};
 ghost use Rattle.section.specs.Rule.{rule_of, index_rule, table_rule, stack_rule, words_rule};
@@ -18,15 +20,15 @@ pub const STACK_MOST: usize = 65536;
 pub const WORDS_MOST: usize = 65536;
 
 // An address of the target.
-#[derive(Drop)]
+#[derive(Clone, Copy)]
 pub struct Addr(pub u32);
 
 // An offset in a section.
-#[derive(Drop)]
+#[derive(Clone, Copy)]
 pub struct Off(pub u32);
 
 // Why there is no answer: the paper's table.
-#[derive(Drop)]
+#[derive(Clone, Copy)]
 pub enum Refusal {
     Section,
     NoEntry,
@@ -77,7 +79,7 @@ impl Refusal {
 }
 
 // A test that passed, or why not.
-#[derive(Drop)]
+#[derive(Clone, Copy)]
 pub enum Check {
     Fine,
     Fault(Refusal),
@@ -148,7 +150,7 @@ pub fn address_of(section: Addr, at: Off) -> Addr
 }
 
 // Where an address stands in a section.
-#[derive(Drop)]
+#[derive(Clone, Copy)]
 pub enum Place {
     At(Off),
     Outside,
@@ -180,7 +182,7 @@ pub fn prel31(word: u32, place: Addr) -> Addr
 }
 
 // An address that is moved up, or that it passes 0xFFFFFFFF.
-#[derive(Drop)]
+#[derive(Clone, Copy)]
 pub enum Summed {
     At(Addr),
     Over,
@@ -199,7 +201,7 @@ pub fn plus(a: Addr, by: u32) -> Summed
 }
 
 // What stands at an offset.
-#[derive(Drop)]
+#[derive(Clone, Copy)]
 pub enum Word {
     At(u32),
     Short,

@@ -9,7 +9,7 @@ use instruction::Instruction;
 use section::{Addr, Refusal, Word};
 
 // What comes after an instruction; of the next one, whether this one loaded 15.
-#[derive(Drop)]
+#[derive(Clone, Copy)]
 pub(crate) enum Outcome {
     Next(bool),
     Finished,

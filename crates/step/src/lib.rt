@@ -1,4 +1,6 @@
 // A step from the registers of one frame to those of its caller.
+#![tactic(auto)]
+
 ghost use Rattle.std.specs.Prelude.{◌≡◌, ◌≤◌, length};
 ghost use Rattle.section.specs.Rule.{stack_most};
 ghost use Rattle.image.specs.Image.{image};
@@ -16,14 +18,14 @@ mod run;
 mod stack;
 
 // 13 is sp, 14 the link, 15 the counter.
-#[derive(Drop)]
+#[derive(Clone, Copy)]
 pub struct Registers {
     pub core: [u32; 16],
     pub vfp: [u64; 32],
 }
 
 // Where a step leads.
-#[derive(Drop)]
+#[derive(Clone, Copy)]
 pub enum Arrival {
     Frame,
     CannotUnwind,
@@ -31,7 +33,7 @@ pub enum Arrival {
 }
 
 // The registers after it, and how many instructions were executed. A refusal and cannot-unwind hand back the registers given, and 0.
-#[derive(Drop)]
+#[derive(Clone, Copy)]
 pub struct Stepped {
     pub arrival: Arrival,
     pub registers: Registers,
@@ -39,7 +41,7 @@ pub struct Stepped {
 }
 
 // The same of a step in place, whose registers stand where they were lent.
-#[derive(Drop)]
+#[derive(Clone, Copy)]
 pub struct Moved {
     pub arrival: Arrival,
     pub count: u32,

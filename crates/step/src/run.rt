@@ -9,7 +9,7 @@ use instruction::Decoded;
 use section::{Addr, Refusal};
 
 // How a run ends: with the next frame after so many instructions, or refused. After a refusal the registers are not used again.
-#[derive(Drop)]
+#[derive(Clone, Copy)]
 pub(crate) enum End {
     Frame(u32),
     Refused(Refusal),

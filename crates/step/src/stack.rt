@@ -5,7 +5,7 @@ ghost use Rattle.step.specs.Stack.{stack_word, double_at, stack_double};
 
 use section::{Addr, Off, Place, Word};
 
-#[derive(Drop)]
+#[derive(Clone, Copy)]
 pub(crate) enum Double {
     At(u64),
     Short,

@@ -1,5 +1,7 @@
 // The walker over instruction bytes: the part of a section that holds them, and a position.
 // A function over a struct that holds a slice is proved by hand, so each only takes it apart: the work is done on a slice and a number.
+#![tactic(auto)]
+
 ghost use Rattle.std.specs.Prelude.{◌≡◌};
 ghost use Rattle.section.specs.View.{Part};
 ghost use Rattle.walker.specs.Walker.{start_rule, start_spot, start_pos, pos_after_byte, pos_after_instruction, Starts, StepsByte, StepsInstruction, byte_or_refused, instruction_or_refused, walked_byte, walked_instruction};
@@ -8,14 +10,14 @@ use instruction::{Byte, Decoded};
 use section::{Check, Refusal};
 
 // Instruction words, and a position in the order of their bytes.
-#[derive(Drop)]
+#[derive(Clone, Copy)]
 pub struct UnwindByteIter<'a> {
     pub bytes: &'a [u8],
     pub pos: u32,
 }
 
 // Whether a walk may start, and the walker that starts it.
-#[derive(Drop)]
+#[derive(Clone, Copy)]
 pub struct Started<'a> {
     pub check: Check,
     pub bytes: &'a [u8],
@@ -23,7 +25,7 @@ pub struct Started<'a> {
 }
 
 // What stands at the walker, and the walker after it.
-#[derive(Drop)]
+#[derive(Clone, Copy)]
 pub struct NextByte<'a> {
     pub got: Byte,
     pub bytes: &'a [u8],
@@ -31,7 +33,7 @@ pub struct NextByte<'a> {
 }
 
 // The instruction at the walker, and the walker after it.
-#[derive(Drop)]
+#[derive(Clone, Copy)]
 pub struct NextInstruction<'a> {
     pub got: Decoded,
     pub bytes: &'a [u8],
@@ -39,14 +41,14 @@ pub struct NextInstruction<'a> {
 }
 
 // A byte of a walk and the position after it: plain values.
-#[derive(Drop)]
+#[derive(Clone, Copy)]
 pub struct WalkedByte {
     pub got: Byte,
     pub pos: u32,
 }
 
 // An instruction of a walk and the position after it.
-#[derive(Drop)]
+#[derive(Clone, Copy)]
 pub struct WalkedInstruction {
     pub got: Decoded,
     pub pos: u32,
