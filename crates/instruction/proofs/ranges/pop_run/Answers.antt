@@ -10,8 +10,7 @@ use Rattle.instruction.specs.Decode.{pop_run, run_mask}
 use Rattle.instruction.specs.declared.Instruction.{Instruction}
 use Rattle.instruction.specs.declared.Decoded.{Decoded}
 use Rattle.instruction.proofs.Table.{at}
-use Rattle.instruction.proofs.ranges.pop_run.Statement.{statement}
-use Rattle.instruction.proofs.ranges.pop_run.Tie as tie
+use Rattle.instruction.proofs.ranges.pop_run.Goals as goal
 
 runs : List ℕ
 runs = 0x10 ∷ 0x30 ∷ 0x70 ∷ 0xF0 ∷ 0x1F0 ∷ 0x3F0 ∷ 0x7F0 ∷ 0xFF0 ∷ 0x4010 ∷ 0x4030 ∷ 0x4070 ∷ 0x40F0 ∷ 0x41F0 ∷ 0x43F0 ∷ 0x47F0 ∷ 0x4FF0 ∷ []
@@ -19,18 +18,6 @@ runs = 0x10 ∷ 0x30 ∷ 0x70 ∷ 0xF0 ∷ 0x1F0 ∷ 0x3F0 ∷ 0x7F0 ∷ 0xFF0 �
 right : ℕ → ℕ → Bool
 right k x = eqb x (run_mask k)
 
-cast-i : tie.Need-cast-i
-cast-i c = search rules
-
-mul-t6 : tie.Need-mul-t6
-mul-t6 c = search rules
-
-array-read-t9 : tie.Need-array-read-t9
-array-read-t9 c = search rules
-
-returns : tie.Need-returns
+pub returns : goal.returns
 unfolding pop_run runs right
 returns c = ap (λ (m : ℕ). Decoded.Step (Instruction.RegPop m) c.args.next) (eqb→eq (get_or runs (c.args.b % 16) 0) (run_mask (c.args.b % 16)) (at right runs tt (c.args.b % 16) (search rules)))
-
-pub pop-run-spec : {M : Type 1} → statement M
-pop-run-spec = tie.close (tie.spec cast-i mul-t6 array-read-t9 returns)
