@@ -1,5 +1,5 @@
 -- What one instruction does to the registers: 16 of 32 bits, where 13 is sp, 14 the link and 15 the counter, and 32 VFP registers of 64 bits.
-use Rattle.std.specs.Prelude.{ℕ, zero, suc, ◌+◌, ◌-◌, ◌/◌, ◌%◌, ◌^◌, Bool, true, false, List, set, ◌==◌, nat_le, slice_index, slice_set}
+use Rattle.std.specs.Prelude.{ℕ, zero, suc, ◌+◌, ◌-◌, ◌/◌, ◌%◌, ◌^◌, Bool, true, false, List, ◌==◌, nat_le, slice_index, slice_set}
 use Rattle.section.specs.Pick.{pick}
 use Rattle.section.specs.Word.{on_word}
 use Rattle.section.specs.declared.Addr.{Addr}

@@ -1,7 +1,6 @@
 -- The run's frame is the step's, and a refusal puts back the registers given. Assumes nothing.
 use Rattle.entry.proofs.Laws.{words_are}
 use Rattle.step.proofs.Steps.{span_ran}
-use Rattle.std.proofs.Common.{rules}
 use Rattle.step.proofs.run_span.Goals as goal
 
 pub returns-in-Frame : goal.returns-in-Frame

@@ -1,5 +1,4 @@
 -- It is the step in place, on copies of the registers given. Assumes nothing.
-use Rattle.std.proofs.Common.{rules}
 use Rattle.step.proofs.step.Goals as goal
 
 pub returns : goal.returns

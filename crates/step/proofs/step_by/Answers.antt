@@ -1,6 +1,5 @@
 -- Each arm is told what was found. Assumes nothing.
 use Rattle.step.specs.Step.{stepped_by}
-use Rattle.std.proofs.Common.{rules}
 use Rattle.step.proofs.step_by.Goals as goal
 
 pub returns-in-CannotUnwind : goal.returns-in-CannotUnwind

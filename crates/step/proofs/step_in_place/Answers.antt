@@ -1,5 +1,5 @@
 -- Each refusal ends the tests in their order and leaves the registers as they were; the function that the search read leads on to the entry. Assumes nothing.
-use Rattle.std.proofs.Common.{sym, ◌∙◌, rules}
+use Rattle.std.proofs.Common.{sym, ◌∙◌}
 use Rattle.section.specs.Rule.{stack_most}
 use Rattle.section.proofs.Rules.{section_exact}
 use Rattle.step.proofs.Steps.{step_sections, step_stack, step_refused, step_led}

@@ -1,10 +1,9 @@
 -- `step::execute::execute` meets its contract: case by case, what the function of an instruction leaves is its effect. Assumes nothing.
-use Rattle.std.proofs.Common.{rules}
 use Rattle.step.specs.Execute.{execute_of}
 use Rattle.step.proofs.execute.execute.Goals as goal
 
 pub from_register-requires : goal.from_register-requires
-from_register-requires c = rw c.in-RegToSp.is at c.requires.1
+from_register-requires c = rw c.in-RegToSp.is at c.requires.named
 
 pub returns-in-DataPop : goal.returns-in-DataPop
 unfolding execute_of

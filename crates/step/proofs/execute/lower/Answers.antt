@@ -5,4 +5,4 @@ use Rattle.step.proofs.Pops.{sub_wraps}
 use Rattle.step.proofs.execute.lower.Goals as goal
 
 pub returns : goal.returns
-returns c = (refl, ap (with_sp c.args.core.now) (sub_wraps _ _ _ (search rules) (search rules) c.wrapping_sub_u32.ensures))
+returns c = (refl, ap (with_sp c.args.core.now) (sub_wraps _ _ _ (search rules) (search rules) c.wrapping_sub_u32.ensures.value))

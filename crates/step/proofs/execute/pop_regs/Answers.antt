@@ -1,6 +1,5 @@
 -- `step::execute::pop_regs` meets its contract. The loop's invariant: what is left to pop, from here with the registers that are left, is what the definition asks. Assumes nothing.
-use Rattle.std.proofs.Common.{◌≡◌, ◌+◌, ◌-◌, ◌/◌, ◌^◌, ◌≤◌, sym, refl, ◌∙◌, arith, rules}
-use Rattle.step.specs.Execute.{sp_of, pop_from}
+use Rattle.std.proofs.Common.{◌+◌, ◌-◌, sym, refl, ◌∙◌, arith, rules}
 use Rattle.step.proofs.Pops.{next_bit, pop_skip, pop_load, pop_out, pop_done, regs_out, regs_loaded, regs_risen}
 use Rattle.step.proofs.execute.pop_regs.Goals as goal
 
@@ -11,7 +10,7 @@ pub loop-j-preserved-in-At : goal.loop-j-preserved-in-At
 loop-j-preserved-in-At c = let is = sym c.word.ensures ∙ c.in-At.is in (
       omega arith,
       next_bit _ _ c.loop-j.invariant.1,
-      rw c.wrapping_add_u32-sp.ensures
+      rw c.wrapping_add_u32-sp.ensures.value
           (sym (pop_load (16 - c.loop-j.j) (16 - (c.loop-j.j + 1)) _ _ _ _ _ _ c.loop-j.m (omega arith) c.loop-j.invariant.1 _ c.if-m-eq1.true is) ∙ c.loop-j.invariant.2),
     )
 

@@ -1,7 +1,6 @@
 -- `step::execute::pop_regs` meets its contract. The loop's invariant: what is left to pop, from here with the registers that are left, is what the definition asks. Assumes nothing.
-use Rattle.std.proofs.Common.{◌≡◌, ◌+◌, ◌-◌, ◌/◌, ◌^◌, ◌≤◌, sym, refl, ◌∙◌, arith, rules}
+use Rattle.std.proofs.Common.{◌≡◌, ◌-◌, ◌/◌, ◌^◌, ◌≤◌}
 use Rattle.step.specs.Execute.{sp_of, pop_from}
-use Rattle.step.proofs.Pops.{next_bit, pop_skip, pop_load, pop_out, pop_done, regs_out, regs_loaded, regs_risen}
 use Rattle.step.proofs.execute.pop_regs.Given as goal
 
 abbrev pub invariant-loop-j : goal.invariant-loop-j

@@ -1,6 +1,5 @@
 -- `step::execute::pop_vfp` meets its contract. The loop's invariant: what is left to pop, from here with the registers that are left, is what the definition asks. Assumes nothing.
-use Rattle.std.proofs.Common.{◌≡◌, ◌+◌, ◌-◌, ◌≤◌, sym, ◌∙◌, arith, rules}
-use Rattle.step.specs.Execute.{sp_of, vfp_from}
+use Rattle.std.proofs.Common.{◌≡◌, ◌+◌, ◌-◌, sym, ◌∙◌, arith}
 use Rattle.step.proofs.Pops.{vfp_load, vfp_out, vfp_done, vfp_over, vfp_outside, vfp_loaded}
 use Rattle.step.proofs.execute.pop_vfp.Goals as goal
 
@@ -14,7 +13,7 @@ loop-j-init c = let n : c.args.start + c.args.count - c.args.start ≡ c.args.co
 pub loop-j-preserved : goal.loop-j-preserved
 loop-j-preserved c = let is = sym c.double_word.ensures ∙ c.in-At.is in (
       omega arith,
-      rw c.wrapping_add_u32-sp.ensures
+      rw c.wrapping_add_u32-sp.ensures.value
           (sym (vfp_load (c.args.start + c.args.count - c.loop-j.j) (c.args.start + c.args.count - (c.loop-j.j + 1)) _ _ _ _ _ (omega arith) _ is) ∙ c.loop-j.invariant.1),
     )
 

@@ -1,7 +1,6 @@
 -- `step::execute::pop_vfp` meets its contract. The loop's invariant: what is left to pop, from here with the registers that are left, is what the definition asks. Assumes nothing.
-use Rattle.std.proofs.Common.{◌≡◌, ◌+◌, ◌-◌, ◌≤◌, sym, ◌∙◌, arith, rules}
+use Rattle.std.proofs.Common.{◌≡◌, ◌-◌, ◌≤◌}
 use Rattle.step.specs.Execute.{sp_of, vfp_from}
-use Rattle.step.proofs.Pops.{vfp_load, vfp_out, vfp_done, vfp_over, vfp_outside, vfp_loaded}
 use Rattle.step.proofs.execute.pop_vfp.Given as goal
 
 abbrev pub invariant-loop-j : goal.invariant-loop-j

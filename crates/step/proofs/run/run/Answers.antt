@@ -1,10 +1,7 @@
 -- The loop's invariant: the run from here, with the registers and the count so far, is the run that the definition asks, and each instruction that was counted took a byte. Assumes nothing.
 use Rattle.step.proofs.Runs.{run_end, run_stop, run_next, run_finish, run_refuse, run_from_lem, run_over}
-use Rattle.step.specs.Execute.{registers}
-use Rattle.step.specs.Run.{run_from, run_of}
-use Rattle.instruction.specs.Program.{program_of}
 use Rattle.instruction.proofs.Laws.{decode_inside}
-use Rattle.std.proofs.Common.{◌≡◌, ◌-◌, ◌≤◌, length, sym, ◌∙◌, arith, rules}
+use Rattle.std.proofs.Common.{sym, ◌∙◌, arith, rules}
 use Rattle.step.proofs.run.run.Goals as goal
 
 pub returns-then-skip-gt2 : goal.returns-then-skip-gt2
@@ -20,7 +17,7 @@ pub returns-in-Refused : goal.returns-in-Refused
 returns-in-Refused c = c.loop-core.invariant.1 ∙ run_stop _ _ _ _ _ _ _ _ _ (sym c.decode.ensures ∙ c.in-Refused.is)
 
 pub execute-requires : goal.execute-requires
-execute-requires c = let h = decode_inside _ _ _ _ (sym c.decode.ensures ∙ c.in-Step.is) in (search rules, h.register)
+execute-requires c = let h = decode_inside _ _ _ _ (sym c.decode.ensures ∙ c.in-Step.is) in record { stack_len_bound = search rules; named = h.register }
 
 pub returns-in-Refused-execute : goal.returns-in-Refused-execute
 returns-in-Refused-execute c = c.loop-core.invariant.1 ∙ run_refuse _ _ _ _ _ _ _ _ _ _ (sym c.decode.ensures ∙ c.in-Step.is) _ (rw c.in-Refused-execute.is at c.execute.ensures)

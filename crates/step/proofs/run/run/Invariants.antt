@@ -1,10 +1,8 @@
 -- The loop's invariant: the run from here, with the registers and the count so far, is the run that the definition asks, and each instruction that was counted took a byte. Assumes nothing.
-use Rattle.step.proofs.Runs.{run_end, run_stop, run_next, run_finish, run_refuse, run_from_lem, run_over}
 use Rattle.step.specs.Execute.{registers}
 use Rattle.step.specs.Run.{run_from, run_of}
 use Rattle.instruction.specs.Program.{program_of}
-use Rattle.instruction.proofs.Laws.{decode_inside}
-use Rattle.std.proofs.Common.{◌≡◌, ◌-◌, ◌≤◌, length, sym, ◌∙◌, arith, rules}
+use Rattle.std.proofs.Common.{◌≡◌, ◌-◌, ◌≤◌, length}
 use Rattle.step.proofs.run.run.Given as goal
 
 abbrev pub invariant-loop-core : goal.invariant-loop-core
