@@ -56,6 +56,7 @@ module _ (i : Image) (s : Sound i) where
     looked : (x : Found) → entry_at i k ≡ x → Names (start_of i k) x → SoundFound i x → LookupGives i c (looked_at i.table c k x)
     looked x e Names.cannot q = rw (looked_cannot i.table c k (start_of i k)) (LookupGives.cannot w e)
     looked x e (Names.compact {n = n} {s = t}) q = rw (looked_compact i.table c k (start_of i k) n t) (LookupGives.compact w e)
+    looked _ e (Names.refused {r = r}) q = elim q [ ]
     looked x e (Names.generic {p = p} {s = t} {o = o}) (SoundFound.generic a q) =
         rw (looked_generic i.table c k (start_of i k) p t o refl refl) (go (call_site_of (language_of i o) (start_of i k) c)
         (clean_sites (language_of i o) (start_of i k) ((sites_exact (language_of i o) (start_of i k)).1 q) q.header q.read c))
