@@ -1,5 +1,5 @@
 // The walker over instruction bytes: the part of a section that holds them, and a position.
-// A function over a struct that holds a slice is proved by hand, so each only takes it apart: the work is done on a slice and a number.
+
 #![tactic(auto)]
 
 ghost use Rattle.std.specs.Prelude.{◌≡◌};
