@@ -8,11 +8,11 @@ loop-j-init c = (search rules, omega arith, refl)
 
 pub loop-j-preserved-in-At : goal.loop-j-preserved-in-At
 loop-j-preserved-in-At c = let is = sym c.word.ensures ∙ c.in-At.is in (
-      omega arith,
-      next_bit _ _ c.loop-j.invariant.1,
-      rw c.wrapping_add_u32-sp.ensures.value
-          (sym (pop_load (16 - c.loop-j.j) (16 - (c.loop-j.j + 1)) _ _ _ _ _ _ c.loop-j.m (omega arith) c.loop-j.invariant.1 _ c.if-m-eq1.true is) ∙ c.loop-j.invariant.2),
-    )
+  omega arith,
+  next_bit _ _ c.loop-j.invariant.1,
+  rw c.wrapping_add_u32-sp.ensures.value
+      (sym (pop_load (16 - c.loop-j.j) (16 - (c.loop-j.j + 1)) _ _ _ _ _ _ c.loop-j.m (omega arith) c.loop-j.invariant.1 _ c.if-m-eq1.true is) ∙ c.loop-j.invariant.2),
+)
 
 pub returns-in-Short : goal.returns-in-Short
 returns-in-Short c = λ vfp.

@@ -12,10 +12,10 @@ loop-j-init c = let n : c.args.start + c.args.count - c.args.start ≡ c.args.co
 
 pub loop-j-preserved : goal.loop-j-preserved
 loop-j-preserved c = let is = sym c.double_word.ensures ∙ c.in-At.is in (
-      omega arith,
-      rw c.wrapping_add_u32-sp.ensures.value
-          (sym (vfp_load (c.args.start + c.args.count - c.loop-j.j) (c.args.start + c.args.count - (c.loop-j.j + 1)) _ _ _ _ _ (omega arith) _ is) ∙ c.loop-j.invariant.1),
-    )
+  omega arith,
+  rw c.wrapping_add_u32-sp.ensures.value
+      (sym (vfp_load (c.args.start + c.args.count - c.loop-j.j) (c.args.start + c.args.count - (c.loop-j.j + 1)) _ _ _ _ _ (omega arith) _ is) ∙ c.loop-j.invariant.1),
+)
 
 pub returns-in-Short : goal.returns-in-Short
 returns-in-Short c = vfp_outside _ _ _ _ _ (omega arith) (sym c.loop-j.invariant.1 ∙ vfp_out (c.args.start + c.args.count - c.loop-j.j) (c.args.start + c.args.count - (c.loop-j.j + 1)) _ _ _ _ _ (omega arith) (sym c.double_word.ensures ∙ c.in-Short.is))
