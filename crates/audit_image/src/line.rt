@@ -17,9 +17,11 @@ pub(crate) struct Line {
 
 // A line with a text after it.
 fn say(line: Line, text: &[u8]) -> Line
-    requires { (length line.bytes ≡ room) × (line.len + length text.now ≤ room) }
-    ensures result_value { written result ≡ written line ++ text.now }
-    ensures bytes_len { (length result.bytes ≡ room) × (result.len ≡ line.len + length text.now) }
+    requires bytes { length line.bytes ≡ room }
+    requires fits { line.len + length text.now ≤ room }
+    ensures text { written result ≡ written line ++ text.now }
+    ensures bytes { length result.bytes ≡ room }
+    ensures length { result.len ≡ line.len + length text.now }
 {
     let from = line.len;
     let mut bytes = line.bytes;
@@ -36,9 +38,11 @@ fn say(line: Line, text: &[u8]) -> Line
 
 // A line with a number after it.
 fn say_number(line: Line, n: u32) -> Line
-    requires { (length line.bytes ≡ room) × (line.len + 10 ≤ room) }
-    ensures result_value { written result ≡ written line ++ decimal n }
-    ensures bytes_len { (length result.bytes ≡ room) × (result.len ≤ line.len + 10) }
+    requires bytes { length line.bytes ≡ room }
+    requires fits { line.len + 10 ≤ room }
+    ensures text { written result ≡ written line ++ decimal n }
+    ensures bytes { length result.bytes ≡ room }
+    ensures length { result.len ≤ line.len + 10 }
 {
     let mut digits = [0u8; 20];
     let k = io::decimal(n as u64, &mut digits);
@@ -47,8 +51,8 @@ fn say_number(line: Line, n: u32) -> Line
 
 // The line of a report.
 pub(crate) fn printed(report: Report) -> Line
-    ensures result_value { written result ≡ line_of report }
-    ensures prefix_len { IsPrefixLen result.len result.bytes }
+    ensures text { written result ≡ line_of report }
+    ensures length { IsPrefixLen result.len result.bytes }
 {
     let empty = Line {
         bytes: [0; ROOM],

@@ -8,6 +8,7 @@ ghost use Rattle.bundle.specs.Bundle.{most_bytes};
 ghost use Rattle.audit_image.specs.Input.{LineOfInput, fill_of};
 
 use crate::line::Line;
+use std::env::{Env, FillError};
 
 mod line;
 
@@ -16,10 +17,10 @@ const MOST: usize = 20 + section::INDEX_MOST + section::TABLE_MOST;
 
 // The line of an input: the first n bytes of the buffer are all of it, or as many as there is room for.
 fn audited(buffer: &[u8], n: usize, fill: u32) -> Line
-    requires most_bytes_in_bounds { most_bytes < length buffer.now }
-    requires prefix_len { IsPrefixLen n buffer.now }
-    ensures line_of_input { LineOfInput buffer.now n fill result }
-    ensures prefix_len_2 { IsPrefixLen result.len result.bytes }
+    requires room { most_bytes < length buffer.now }
+    requires received { IsPrefixLen n buffer.now }
+    ensures line { LineOfInput buffer.now n fill result }
+    ensures length { IsPrefixLen result.len result.bytes }
 {
     line::printed(bundle::audit_bundle(&buffer[..n], fill))
 }
@@ -50,16 +51,30 @@ fn fill_of(argument: &[u8]) -> u32
     }
 }
 
-// The arguments are counted with the program's own name. One that is too long for the buffer counts as none of its bytes.
-fn main() {
-    let count = os::arg_count();
-    if count < 2 {
+// Whether there is an argument at a place; at 0 stands the program's own name.
+fn is_given(env: &impl Env, place: usize) -> bool {
+    let mut argument = [0u8; 1];
+    match env.arg(place, &mut argument) {
+        Err(FillError::NotPresent) => false,
+        _ => true,
+    }
+}
+
+// The fill that the first argument says. One that is too long for the buffer counts as none of its bytes.
+fn fill_given(env: &impl Env) -> u32 {
+    let mut argument = [0u8; 1];
+    match env.arg(1, &mut argument) {
+        Ok(n) => fill_of(&argument[..n]),
+        Err(_) => 0,
+    }
+}
+
+fn main(rt: HostRuntime) {
+    if !is_given(&rt, 1) {
         return run(0);
     }
-    let mut argument = [0u8; 1];
-    let n = os::arg(1, &mut argument);
-    let fill = fill_of(&argument[..n]);
-    if count == 2 && fill != 0 {
+    let fill = fill_given(&rt);
+    if fill != 0 && !is_given(&rt, 2) {
         run(fill);
     } else {
         io::write_all(2, b"usage: audit_image [1 | 2 | 3] < BUNDLE\n");
