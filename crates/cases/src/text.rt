@@ -6,7 +6,8 @@ pub(crate) const ROOM: usize = 131200;
 
 // The value of the hex digit at a place; 16 where the line ends, or at a space or a `+`. Letters stand 9 above their last four bits.
 fn digit(line: &[u8], at: usize) -> u8
-    ensures { (result ≤ 16) × (result < 16 → at < length line.now) }
+    ensures bound { result ≤ 16 }
+    ensures inside { result < 16 → at < length line.now }
 {
     if at < line.len() {
         let b = line[at];
@@ -90,7 +91,8 @@ pub(crate) fn head<'a>(bytes: &'a [u8; ROOM], n: usize) -> &'a [u8] {
 // Where the line that begins at `at` ends.
 pub(crate) fn line_end(text: &[u8], at: usize) -> usize
     requires { at ≤ length text.now }
-    ensures { (at ≤ result) × (result ≤ length text.now) }
+    ensures after { at ≤ result }
+    ensures inside { result ≤ length text.now }
 {
     let mut i = at;
     while i < text.len() {
