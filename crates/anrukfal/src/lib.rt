@@ -1,4 +1,4 @@
-// The C library: each call returns the refusal's number, 0 for none, and fills its row, all zero at a refusal.
+// The calls of the C library, which anrukfal_c exports: each returns the refusal's number, 0 for none, and fills its row, all zero at a refusal.
 #![tactic(auto)]
 
 ghost use Rattle.std.specs.Prelude.{◌≡◌, ◌↔◌};
@@ -42,8 +42,7 @@ use step::Arrival;
 mod rows;
 
 // The target of a word that stands at `place`.
-#[unsafe(no_mangle)]
-pub extern "C" fn anrukfal_prel31(word: u32, place: u32) -> u32
+pub fn anrukfal_prel31(word: u32, place: u32) -> u32
     ensures { result ≡ (prel31_of word (addr place)).0 }
 {
     let target = section::prel31(word, Addr(place));
@@ -51,8 +50,7 @@ pub extern "C" fn anrukfal_prel31(word: u32, place: u32) -> u32
 }
 
 // Value, next position.
-#[unsafe(no_mangle)]
-pub extern "C" fn anrukfal_pointer(data: &[u8], at: u32, encoding: u8, row: &mut [u32; 2]) -> u32
+pub fn anrukfal_pointer(data: &[u8], at: u32, encoding: u8, row: &mut [u32; 2]) -> u32
     ensures { Told (read_answer (pointer_of «data».now at encoding)) result row.new }
 {
     // What compilers write has its own arm: with a constant encoding its reader is inlined here.
@@ -65,8 +63,7 @@ pub extern "C" fn anrukfal_pointer(data: &[u8], at: u32, encoding: u8, row: &mut
 }
 
 // Kind, a, b, next position.
-#[unsafe(no_mangle)]
-pub extern "C" fn anrukfal_instruction(words: &[u8], at: u32, row: &mut [u32; 4]) -> u32
+pub fn anrukfal_instruction(words: &[u8], at: u32, row: &mut [u32; 4]) -> u32
     ensures { Told (decoded_answer at (decode_of words.now at)) result row.new }
 {
     match instruction::decode(words, at) {
@@ -86,8 +83,7 @@ pub extern "C" fn anrukfal_instruction(words: &[u8], at: u32, row: &mut [u32; 4]
 }
 
 // Function, kind, selector or table address, offset of the words, words, skip.
-#[unsafe(no_mangle)]
-pub extern "C" fn anrukfal_index_entry(
+pub fn anrukfal_index_entry(
     index: &[u8],
     index_address: u32,
     number: u32,
@@ -109,8 +105,7 @@ pub extern "C" fn anrukfal_index_entry(
 }
 
 // Kind, selector or personality address, offset of the words, words, skip, offset of the language data.
-#[unsafe(no_mangle)]
-pub extern "C" fn anrukfal_table_entry(
+pub fn anrukfal_table_entry(
     table: &[u8],
     table_address: u32,
     offset: u32,
@@ -131,13 +126,7 @@ pub extern "C" fn anrukfal_table_entry(
 }
 
 // Start, end, pad, has action, action.
-#[unsafe(no_mangle)]
-pub extern "C" fn anrukfal_call_site(
-    data: &[u8],
-    function: u32,
-    counter: u32,
-    row: &mut [u32; 5],
-) -> u32
+pub fn anrukfal_call_site(data: &[u8], function: u32, counter: u32, row: &mut [u32; 5]) -> u32
     ensures { Told (site_answer (call_site_of «data».now (addr function) (addr counter))) result row.new }
 {
     match lsda::call_site(data, Addr(function), Addr(counter)) {
@@ -153,13 +142,7 @@ pub extern "C" fn anrukfal_call_site(
 }
 
 // Entry, function words read.
-#[unsafe(no_mangle)]
-pub extern "C" fn anrukfal_search(
-    index: &[u8],
-    index_address: u32,
-    counter: u32,
-    row: &mut [u32; 2],
-) -> u32
+pub fn anrukfal_search(index: &[u8], index_address: u32, counter: u32, row: &mut [u32; 2]) -> u32
     ensures { Told (search_answer (search_of index.now (addr index_address) (addr counter))) result row.new }
 {
     match search::search(index, Addr(index_address), Addr(counter)) {
@@ -175,8 +158,7 @@ pub extern "C" fn anrukfal_search(
 }
 
 // Entry, function, kind, selector or personality address, start, end, pad, has action, action.
-#[unsafe(no_mangle)]
-pub extern "C" fn anrukfal_lookup(
+pub fn anrukfal_lookup(
     index: &[u8],
     index_address: u32,
     table: &[u8],
@@ -213,8 +195,7 @@ pub extern "C" fn anrukfal_lookup(
 }
 
 // Kind, count. The registers go in and come out; a refused step leaves them as they were.
-#[unsafe(no_mangle)]
-pub extern "C" fn anrukfal_step<'a>(
+pub fn anrukfal_step<'a>(
     index: &'a [u8],
     index_address: u32,
     table: &'a [u8],
@@ -255,8 +236,7 @@ pub extern "C" fn anrukfal_step<'a>(
 }
 
 // The entry at fault; 0 for a section fault and for an image that passes. 0 is returned exactly for sound images, and these keep the promise.
-#[unsafe(no_mangle)]
-pub extern "C" fn anrukfal_audit<'a>(
+pub fn anrukfal_audit<'a>(
     index: &'a [u8],
     index_address: u32,
     table: &'a [u8],
@@ -280,8 +260,7 @@ pub extern "C" fn anrukfal_audit<'a>(
 }
 
 // Index address, table address, offset and bytes of the index, offset and bytes of the table.
-#[unsafe(no_mangle)]
-pub extern "C" fn anrukfal_bundle(bytes: &[u8], row: &mut [u32; 6]) -> u32
+pub fn anrukfal_bundle(bytes: &[u8], row: &mut [u32; 6]) -> u32
     ensures { Told (bundle_answer (bundle_of bytes.now)) result row.new }
 {
     match bundle::read_bundle(bytes) {

@@ -1,4 +1,4 @@
-// The readers that the C library's calls are made of, exported to C one call each, for tests and tools.
+// The readers that the C library's calls are made of, one call each, for tests and tools; readers_c exports them to C.
 // Each call returns the refusal's number, 0 for none, and fills its row, all zero at a refusal.
 #![tactic(auto)]
 
@@ -30,13 +30,7 @@ use section::{Addr, Check, Off, Place, Refusal, Summed, Word};
 mod rows;
 
 // No row.
-#[unsafe(no_mangle)]
-pub extern "C" fn anrukfal_sections(
-    index: &[u8],
-    index_address: u32,
-    table: &[u8],
-    table_address: u32,
-) -> u32
+pub fn anrukfal_sections(index: &[u8], index_address: u32, table: &[u8], table_address: u32) -> u32
     ensures { result ≡ (check_answer (sections_of (image index.now (addr index_address) table.now (addr table_address)))).number }
 {
     match image::sections(index, Addr(index_address), table, Addr(table_address)) {
@@ -46,8 +40,7 @@ pub extern "C" fn anrukfal_sections(
 }
 
 // Offset.
-#[unsafe(no_mangle)]
-pub extern "C" fn anrukfal_offset(section: u32, len: usize, address: u32, row: &mut [u32; 1]) -> u32
+pub fn anrukfal_offset(section: u32, len: usize, address: u32, row: &mut [u32; 1]) -> u32
     ensures { Told (offset_answer (offset_of (addr section) len (addr address))) result row.new }
 {
     match section::offset_of(Addr(section), len, Addr(address)) {
@@ -63,8 +56,7 @@ pub extern "C" fn anrukfal_offset(section: u32, len: usize, address: u32, row: &
 }
 
 // Sum.
-#[unsafe(no_mangle)]
-pub extern "C" fn anrukfal_plus(a: u32, by: u32, row: &mut [u32; 1]) -> u32
+pub fn anrukfal_plus(a: u32, by: u32, row: &mut [u32; 1]) -> u32
     ensures { Told (sum_answer (plus_of (addr a) by)) result row.new }
 {
     match section::plus(Addr(a), by) {
@@ -80,8 +72,7 @@ pub extern "C" fn anrukfal_plus(a: u32, by: u32, row: &mut [u32; 1]) -> u32
 }
 
 // Word.
-#[unsafe(no_mangle)]
-pub extern "C" fn anrukfal_word(bytes: &[u8], at: u32, row: &mut [u32; 1]) -> u32
+pub fn anrukfal_word(bytes: &[u8], at: u32, row: &mut [u32; 1]) -> u32
     ensures { Told (word_answer (word_at bytes.now at)) result row.new }
 {
     match section::word_at(bytes, Off(at)) {
@@ -108,8 +99,7 @@ fn byte_or_zero(data: &[u8], at: usize) -> u64
 }
 
 // How many bytes the language data of the table entry at an offset has, and the one at a position.
-#[unsafe(no_mangle)]
-pub extern "C" fn anrukfal_language(
+pub fn anrukfal_language(
     table: &[u8],
     table_address: u32,
     offset: u32,
@@ -127,8 +117,7 @@ pub extern "C" fn anrukfal_language(
 }
 
 // Whether a byte is there, the byte.
-#[unsafe(no_mangle)]
-pub extern "C" fn anrukfal_byte(words: &[u8], at: u32, row: &mut [u32; 2]) -> u32
+pub fn anrukfal_byte(words: &[u8], at: u32, row: &mut [u32; 2]) -> u32
     ensures { Told (byte_answer (byte_of words.now at)) result row.new }
 {
     match instruction::byte_at(words, at) {
@@ -148,13 +137,7 @@ pub extern "C" fn anrukfal_byte(words: &[u8], at: u32, row: &mut [u32; 2]) -> u3
 }
 
 // Function.
-#[unsafe(no_mangle)]
-pub extern "C" fn anrukfal_function(
-    index: &[u8],
-    index_address: u32,
-    number: u32,
-    row: &mut [u32; 1],
-) -> u32
+pub fn anrukfal_function(index: &[u8], index_address: u32, number: u32, row: &mut [u32; 1]) -> u32
     ensures { Told (function_answer (function_at index.now (addr index_address) number)) result row.new }
 {
     match entry::function_at(index, Addr(index_address), number) {
@@ -170,13 +153,7 @@ pub extern "C" fn anrukfal_function(
 }
 
 // Kind, selector or table address, offset of the words, words, skip.
-#[unsafe(no_mangle)]
-pub extern "C" fn anrukfal_content(
-    index: &[u8],
-    index_address: u32,
-    number: u32,
-    row: &mut [u32; 5],
-) -> u32
+pub fn anrukfal_content(index: &[u8], index_address: u32, number: u32, row: &mut [u32; 5]) -> u32
     ensures { Told (content_answer (content_at index.now (addr index_address) number)) result row.new }
 {
     match entry::content_at(index, Addr(index_address), number) {
@@ -192,8 +169,7 @@ pub extern "C" fn anrukfal_content(
 }
 
 // Base, encoding, the table's start and end.
-#[unsafe(no_mangle)]
-pub extern "C" fn anrukfal_header(data: &[u8], function: u32, row: &mut [u64; 4]) -> u32
+pub fn anrukfal_header(data: &[u8], function: u32, row: &mut [u64; 4]) -> u32
     ensures { Told (header_answer (header_of «data».now (addr function))) result row.new }
 {
     match lsda::read_header(data, Addr(function)) {
@@ -209,8 +185,7 @@ pub extern "C" fn anrukfal_header(data: &[u8], function: u32, row: &mut [u64; 4]
 }
 
 // Whether a site is there, start, end, pad and action as they are written, next position.
-#[unsafe(no_mangle)]
-pub extern "C" fn anrukfal_site(
+pub fn anrukfal_site(
     data: &[u8],
     base: u32,
     encoding: u8,
@@ -244,8 +219,7 @@ pub extern "C" fn anrukfal_site(
 }
 
 // Function, kind, selector or personality address, offset of the words, words, skip, offset of the language data.
-#[unsafe(no_mangle)]
-pub extern "C" fn anrukfal_entry(
+pub fn anrukfal_entry(
     index: &[u8],
     index_address: u32,
     table: &[u8],
@@ -282,8 +256,7 @@ pub extern "C" fn anrukfal_entry(
 }
 
 // Whether a byte is there, the byte, next position.
-#[unsafe(no_mangle)]
-pub extern "C" fn anrukfal_walk_byte(bytes: &[u8], skip: u32, pos: u32, row: &mut [u32; 3]) -> u32
+pub fn anrukfal_walk_byte(bytes: &[u8], skip: u32, pos: u32, row: &mut [u32; 3]) -> u32
     ensures { Told (walked_byte_answer (walked_byte bytes.now skip pos)) result row.new }
 {
     let walked = walker::walk_byte(bytes, skip, pos);
@@ -305,13 +278,7 @@ pub extern "C" fn anrukfal_walk_byte(bytes: &[u8], skip: u32, pos: u32, row: &mu
 }
 
 // Kind, a, b, next position.
-#[unsafe(no_mangle)]
-pub extern "C" fn anrukfal_walk_instruction(
-    bytes: &[u8],
-    skip: u32,
-    pos: u32,
-    row: &mut [u32; 4],
-) -> u32
+pub fn anrukfal_walk_instruction(bytes: &[u8], skip: u32, pos: u32, row: &mut [u32; 4]) -> u32
     ensures { Told (walked_instruction_answer (walked_instruction bytes.now skip pos)) result row.new }
 {
     let walked = walker::walk_instruction(bytes, skip, pos);
