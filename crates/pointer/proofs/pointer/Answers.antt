@@ -1,6 +1,6 @@
 -- `pointer::pointer` is right: it tests the limit; then each arm's numbers say which form the encoding has, and the arm reads that form. Assumes nothing.
 use mathlib.Core.Path.{sym, ap, subst⁻¹, ◌∙◌}
-use mathlib.Core.Logic.{⊎_elim, inl, inr}
+use mathlib.Core.Logic.{⊎_elim}
 use native.Mathlib.Omega.{arith}
 use Rattle.pointer.specs.Number.{unsigned_of, signed_of, Bounded}
 use Rattle.pointer.specs.Pointer.{pointer_of, form_of, forms, formed, Form}
@@ -58,7 +58,7 @@ returns-in-12 c = c.signed-in-12.ensures ∙ ap signed_of c.read-in-12.ensures �
 
 pub returns-in_default : goal.returns-in_default
 unfolding formed
-returns-in_default c = let e = c.in_default.in_default-own.rest in
+returns-in_default c =
     sym (as_formed _ _ _ Form.omitted (omega arith)
-    (no_form _ forms
-    (λ q. e.0.0.0.0.0.0.0.1 (inl q), (λ q. e.0.0.0.0.0.0.0.1 (inr q), (e.0.0.0.0.0.0.1, (e.0.0.0.0.0.1, (e.0.0.0.0.1, (e.0.0.0.1, (e.0.0.1, (e.0.1, (e.1, tt)))))))))))
+    (no_form c.args.encoding forms
+    (grind arith, (grind arith, (omega arith, (omega arith, (omega arith, (omega arith, (omega arith, (omega arith, (omega arith, tt)))))))))))
