@@ -3,6 +3,7 @@
 
 Each refusal that a bundle can give at the first, a middle and the last entry; truncations at every byte of a small bundle; counts at their limits; leftovers; a largest bundle; tables that are no
 multiple of 4 bytes long, with their fill as the argument; and arguments that say no fill."""
+import os
 import random
 import subprocess
 import sys
@@ -11,7 +12,7 @@ import time
 import edges
 import paper
 
-PROGRAM = "target/bin/audit_image"
+PROGRAM = "crates/audit_image/out/audit_image"
 
 
 def bundle(index, table, index_at=edges.INDEX_AT, table_at=edges.TABLE_AT, filler=b"\0"):
@@ -105,6 +106,7 @@ def compare(data, fill):
     line = printed(data, *([str(fill)] if fill else [])).stdout.decode()
     expected = paper.audit_line(data, fill) + "\n"
     if line != expected:
+        os.makedirs("target", exist_ok=True)
         open("target/differs.bundle", "wb").write(data)
         sys.exit(f"target/differs.bundle, fill {fill}: audit_image says {line!r}, the paper {expected!r}")
     return line

@@ -77,7 +77,7 @@ class Library:
 def loaded():
     """The C library, linked into the folder at hand for Python to load."""
     if not os.path.exists(LIBRARY):
-        subprocess.run(["rt", "staticlib", "anrukfal"], cwd=HERE, check=True, stdout=subprocess.DEVNULL)
+        subprocess.run([os.path.join(HERE, "../tools/libraries"), "anrukfal"], check=True, stdout=subprocess.DEVNULL)
     subprocess.run(["cc", "-shared", "-o", "lib.so", "-Wl,--whole-archive", LIBRARY, "-Wl,--no-whole-archive"], check=True)
     return Library("./lib.so")
 

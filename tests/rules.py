@@ -10,7 +10,7 @@ import sys
 
 import expect
 
-PAGE, PROGRAM = "docs/RULES.md", "target/bin/edges"
+PAGE, PROGRAM = "docs/RULES.md", "crates/edges/out/edges"
 EXAMPLE = re.compile(r"^    ((?:relative|pointer|instruction|entry|table|callsite|search|lookup|frame|audit|bundle) .*?) =(.*)$", re.M)
 GROUP = re.compile(r"(\w+), (\w+): ((?:`[\w-]+`(?:, )?)+)")
 SHOWN = 20  # so many values of a row that ends in `..`

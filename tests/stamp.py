@@ -10,14 +10,15 @@ import tempfile
 
 HERE = os.path.dirname(os.path.abspath(__file__))
 RT = """#!/bin/sh
-[ ! -e target/stamp/audit_image ] || exit 1
-echo x >>builds
-mkdir -p target/bin target/stamp
-printf '#!/bin/sh\\necho ok %s\\n' "$(wc -l <builds)" >target/bin/audit_image
-chmod +x target/bin/audit_image
-touch target/stamp/audit_image
-echo 'rt: section proved (1 s)'
-echo 'rt: audit_image proved (1 s)'
+[ ! -e out/audit_image.stamp ] || exit 1
+echo x >>../../builds
+mkdir -p out
+printf '#!/bin/sh\\necho ok %s\\n' "$(wc -l <../../builds)" >out/audit_image
+chmod +x out/audit_image
+touch out/audit_image.stamp
+for crate in section audit_image; do
+    printf 'crate %s: modules loaded=0 checked=1\\nlogic=proved functions=1\\n' $crate >&2
+done
 """
 
 
@@ -40,24 +41,24 @@ def main():
     os.chdir(tree.name)
     shutil.copy(os.path.join(HERE, "../audit"), ".")
     shutil.copytree(os.path.join(HERE, "../tools"), "tools")
-    written("crates.txt", "section:\naudit_image: section io\nanrukfal: section\n")
-    for part in ("section/src/lib.rt", "section/specs/Rule.antt", "audit_image/src/main.rt", "audit_image/proofs/F/Proof.antt", "anrukfal/src/lib.rt"):
+    written("crates.txt", "section:\naudit_image: section io\nanrukfal: section\nanrukfal_c staticlib: anrukfal\n")
+    for part in ("section/src/lib.rt", "section/specs/Rule.antt", "audit_image/src/main.rt", "audit_image/proofs/F/Answers.antt", "anrukfal/src/lib.rt"):
         written(f"crates/{part}", "one")
     written("bundle", "")
     written("rt", RT)
     os.chmod("rt", 0o755)
     told = audited(1)
-    if "section proved (1 s), 1 left" not in told or "audit_image proved (1 s), 0 left" not in told:
+    if "audit: section proved\n" not in told or "audit: audit_image proved\n" not in told:
         sys.exit(f"stamp: a build tells {told!r}")
     if audited(1):
         sys.exit("stamp: it is told where nothing is built")
     written("crates/anrukfal/src/lib.rt", "two")
     audited(1)
-    changes = ["crates/section/src/lib.rt", "crates/section/specs/Rule.antt", "crates/audit_image/proofs/F/Proof.antt", "crates/section/src/new.rt", "target/bin/audit_image", "target/bin/audit_image.stamp"]
+    changes = ["crates/section/src/lib.rt", "crates/section/specs/Rule.antt", "crates/audit_image/proofs/F/Answers.antt", "crates/section/src/new.rt", "crates/audit_image/out/audit_image", "target/audit_image.made"]
     for build, path in enumerate(changes, 2):
         written(path, "two")
         audited(build)
-    os.remove("target/bin/audit_image")
+    os.remove("crates/audit_image/out/audit_image")
     audited(len(changes) + 2)
     written("crates.txt", open("crates.txt").read() + "bundle:\n")
     audited(len(changes) + 3)

@@ -1,5 +1,5 @@
 #!/usr/bin/env python3
-"""times.py NAME: how long each module of a crate took in its last `rt dev NAME` from nothing (target/inc/NAME removed before it).
+"""times.py NAME: how long each module of a crate took in its last check from nothing: `rm -rf out/incremental; rt check --jobs 1` in the crate's folder.
 
 The prover saves a module as soon as it is checked, so the time between two saved files is the later one's."""
 import os
@@ -10,12 +10,12 @@ if len(sys.argv) != 2:
 name = sys.argv[1]
 saved = sorted(
     (os.stat(path).st_mtime_ns / 1e9, os.path.basename(path))
-    for folder, _, files in os.walk(f"target/inc/{name}")
-    for path in (os.path.join(folder, f) for f in files)
+    for folder, _, files in os.walk(f"crates/{name}/out/incremental")
+    for path in (os.path.join(folder, f) for f in files if f.endswith(".oantt"))
 )
 took, kinds = {}, {}
 for (before, _), (after, file) in zip(saved, saved[1:]):
-    module = file.removesuffix(".oantt").removesuffix(".decls").removeprefix(f"Rattle·{name}·proofs.proofs.")
+    module = file.removesuffix(".oantt").removeprefix(f"Rattle-{name}-proofs.")
     took[module] = took.get(module, 0) + after - before
 for module, seconds in took.items():
     kind = module.split(".")[-1]

@@ -7,7 +7,7 @@ import sys
 
 COMMENT = re.compile(r"^\s*(--|//)")
 USE = re.compile(r"^(\s*(?:ghost )?use [^\s;{]+?)(?:\.\{([^}]*)\})?( as (\S+?))?(;?)$")
-LAW = re.compile(r"^(\s*)(?:(?:abbrev|unfoldable|opaque) )*(?:pub )?(?:data |record )?([^\s:(){}_]+)(?: \([^)]*\)| \{[^}]*\})* : ")
+LAW = re.compile(r"^(\s*)(?:(?:abbrev|unfoldable|opaque) )*(?:pub )?(?:data |record )?([^\s:(){}◌]+)(?: \([^)]*\)| \{[^}]*\})* : ")
 
 
 def words(text):
@@ -24,8 +24,8 @@ def lines_of(path):
 def used(name, body, seen):
     if name in seen:
         return True
-    parts = [part for part in name.split("_") if part]
-    return "_" in name and bool(parts) and all(part in body for part in parts)
+    parts = [part for part in name.split("◌") if part]
+    return "◌" in name and bool(parts) and all(part in body for part in parts)
 
 
 def without_unused(path):
@@ -53,8 +53,8 @@ def uncited(files):
     counts = words("\n".join(l for ls in text.values() for l in ls))
     counts.update(words("\n".join(l for path in glob.glob("docs/*.md") for l in lines_of(path))))
     for path in files:
-        # A function's own proof file has its needs.
-        if path.endswith(("Proof.antt", ".rt")):
+        # A function's own proof files have its goals.
+        if path.endswith(("Proof.antt", "Answers.antt", "Invariants.antt", ".rt")):
             continue
         for indent, name in dict.fromkeys(m.groups() for l in text[path] if (m := LAW.match(l))):
             own = re.compile(f"{indent}(?:(?:abbrev|unfoldable|opaque) )*(?:pub )?(?:data |record )?{re.escape(name)}(?![^\\s:({{])")
@@ -63,7 +63,7 @@ def uncited(files):
 
 
 def main():
-    files = sorted(glob.glob("crates/**/*.antt", recursive=True) + glob.glob("crates/*/src/*.rt"))
+    files = sorted(f for f in glob.glob("crates/**/*.antt", recursive=True) + glob.glob("crates/*/src/*.rt") if "/out/" not in f)
     for path in files:
         text, cut = without_unused(path)
         if cut:
