@@ -30,6 +30,7 @@ pub enum BundleRead {
 }
 
 // Reads a bundle: every test of the paper, in its order.
+#[tactic(auto, using(crate::proofs::Laws::bundle_first, crate::proofs::Laws::bundle_short, crate::proofs::Laws::bundle_early, crate::proofs::Laws::bundle_on, section::proofs::Words::word_gone))]
 pub fn read_bundle(bytes: &[u8]) -> BundleRead
     ensures { result ≡ bundle_of bytes.now }
 {

@@ -39,6 +39,7 @@ pub(crate) fn function_of(index: &[u8], index_address: Addr, number: u32) -> Fun
 }
 
 // The content of an entry that is there.
+#[tactic(auto, using(section::proofs::Words::word_there, crate::proofs::Ways::content_one, crate::proofs::Ways::content_table, crate::proofs::Ways::content_compact))]
 pub(crate) fn content_of(index: &[u8], index_address: Addr, number: u32) -> Content
     requires { (length index.now ≤ index_most) × (number < entries index.now) }
     ensures { result ≡ content_of (word index.now (8 * number + 4)) index_address (off (8 * number + 4)) }

@@ -32,6 +32,7 @@ fn fit(len: usize, personality: Personality, at: Off, words: u32, skip: u32) -> 
 }
 
 // A first word with bit 31 set, in a table of `len` bytes.
+#[tactic(auto, using(crate::proofs::Ways::compact_zero, crate::proofs::Ways::compact_counted, crate::proofs::Ways::compact_selector))]
 fn compact(len: usize, at: Off, w: u32) -> TableRead
     requires { at.0 ≤ table_most }
     ensures { result ≡ compact_of len at.0 w }

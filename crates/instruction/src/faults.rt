@@ -24,6 +24,7 @@ pub(super) fn ends(i: Instruction) -> bool
 }
 
 // What an audit has against an instruction.
+#[tactic(auto, unfolding(crate::specs::Program::fault_of))]
 pub(super) fn fault(i: Instruction) -> Check
     ensures { result ≡ fault_of i }
 {

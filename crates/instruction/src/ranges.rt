@@ -14,6 +14,7 @@ pub(crate) fn error_at(words: &[u8], next: u32) -> Decoded
 }
 
 // 80-8F
+#[tactic(auto, using(crate::proofs::Laws::mask_refused, crate::proofs::Laws::mask_pop), unfolding(crate::specs::Decode::pop_mask))]
 fn pop_mask(words: &[u8], next: u32, b: u8) -> Decoded
     requires { WithinWords words.now next }
     ensures { result ≡ pop_mask words.now next b }

@@ -23,7 +23,8 @@ pub(crate) fn read(data: &[u8], at: Off) -> Number
         }
         let byte = wide(data[from + k]);
         value = value + byte % 0x80 * scale;
-        if byte < 0x80 {
+        let ends = byte < 0x80;
+        if ends {
             break Number::Found(value, scale * 0x40, Off((from + k + 1) as u32));
         }
         scale = scale * 0x80;

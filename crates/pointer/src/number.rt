@@ -29,6 +29,7 @@ pub(crate) fn unsigned(n: Number) -> Read
 }
 
 // A number in two's complement.
+#[tactic(auto, using(crate::proofs::Numbers::plus_in, crate::proofs::Numbers::plus_over, crate::proofs::Numbers::minus_in, crate::proofs::Numbers::minus_over, crate::proofs::Numbers::signed_refused), unfolding(crate::specs::Number::Bounded))]
 pub(crate) fn signed(n: Number) -> Read
     requires { Bounded n }
     ensures { result ≡ signed_of n }

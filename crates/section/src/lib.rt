@@ -189,6 +189,7 @@ pub enum Summed {
 }
 
 // The address `by` bytes up, without wrapping.
+#[tactic(auto, using(crate::proofs::Places::plus_in, crate::proofs::Places::plus_over))]
 pub fn plus(a: Addr, by: u32) -> Summed
     ensures { result ≡ plus_of a by }
 {

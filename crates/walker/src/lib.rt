@@ -55,6 +55,7 @@ pub struct WalkedInstruction {
 }
 
 // Whether these are instruction words, and the skip is one that an entry can have.
+#[tactic(auto, using(crate::proofs::Laws::start_refused, crate::proofs::Laws::start_skip, crate::proofs::Laws::start_fine))]
 fn start_rule(bytes: &[u8], skip: u32) -> Check
     ensures { result ≡ start_rule bytes.now skip }
 {

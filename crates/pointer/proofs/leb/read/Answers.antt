@@ -45,8 +45,8 @@ pub returns-then-data-from : goal.returns-then-data-from
 unfolding leb_of ended
 returns-then-data-from c = sym (ap (ended _ _) (c.loop-k.invariant.3 ∙ at_early _ _ _ (omega arith) (omega arith)))
 
-pub returns-then-byte-lt128 : goal.returns-then-byte-lt128
+pub returns-then-ends : goal.returns-then-ends
 unfolding leb_of ended
-returns-then-byte-lt128 c = let g = grown ((goal.at.returns-then-byte-lt128 c).After-wide-byte) in
+returns-then-ends c = let g = grown ((goal.at.returns-then-ends c).After-wide-byte) in
     found_is 128 c.args.«data».now c.args.at.0 (c.loop-k.k + 1) g.next (omega arith) (omega arith)
     ∙ sym (ap (ended _ _) (c.loop-k.invariant.3 ∙ at_last _ _ _ (omega arith) (omega arith) (omega arith)))
