@@ -72,7 +72,7 @@ pub fn decode(words: &[u8], at: u32) -> Decoded
 
 // Whether the instructions through the first Finish or Refused, or to the end, can all be executed; or what the first that cannot gives.
 pub fn audit_instructions(words: &[u8], skip: u32) -> Check
-    ensures value { result ≡ audit_instructions_of words.now skip }
+    ensures answer { result ≡ audit_instructions_of words.now skip }
     ensures exact { (result ≡ Check.Fine) ↔ CleanInstructions words.now skip }
 {
     if 2 < skip {

@@ -123,7 +123,7 @@ pub fn call_site(data: &[u8], function: Addr, counter: Addr) -> SiteFound
 
 // Whether the header and every call site can be read, and pads and actions fit; or the first fault.
 pub fn audit_sites(data: &[u8], function: Addr) -> Check
-    ensures value { result ≡ audit_sites_of «data».now function }
+    ensures answer { result ≡ audit_sites_of «data».now function }
     ensures exact { (result ≡ Check.Fine) ↔ CleanSites «data».now function }
 {
     match read_header(data, function) {

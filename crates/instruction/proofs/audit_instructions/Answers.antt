@@ -6,22 +6,22 @@ use Rattle.instruction.proofs.Laws.{decode_inside}
 use Rattle.instruction.proofs.audit_instructions.Goals as goal
 
 pub returns-then-skip-gt2 : goal.returns-then-skip-gt2
-returns-then-skip-gt2 c = let both = audit_told _ _ _ (sym (audit_over _ _ (omega arith))) in record { value = both.0; exact = both.1 }
+returns-then-skip-gt2 c = let both = audit_told _ _ _ (sym (audit_over _ _ (omega arith))) in record { answer = both.0; exact = both.1 }
 
 pub loop-r-init : goal.loop-r-init
 loop-r-init c = sym (audit_from_lem _ _ (omega arith))
 
 pub returns-in-End : goal.returns-in-End
-returns-in-End c = let both = audit_told _ _ _ (sym (audit_end _ _ (sym c.decode.ensures ∙ c.in-End.is)) ∙ c.loop-r.invariant) in record { value = both.0; exact = both.1 }
+returns-in-End c = let both = audit_told _ _ _ (sym (audit_end _ _ (sym c.decode.ensures ∙ c.in-End.is)) ∙ c.loop-r.invariant) in record { answer = both.0; exact = both.1 }
 
 pub returns-in-Refused : goal.returns-in-Refused
-returns-in-Refused c = let both = audit_told _ _ _ (sym (audit_refused _ _ _ (sym c.decode.ensures ∙ c.in-Refused.is)) ∙ c.loop-r.invariant) in record { value = both.0; exact = both.1 }
+returns-in-Refused c = let both = audit_told _ _ _ (sym (audit_refused _ _ _ (sym c.decode.ensures ∙ c.in-Refused.is)) ∙ c.loop-r.invariant) in record { answer = both.0; exact = both.1 }
 
 pub returns-in-Fault : goal.returns-in-Fault
-returns-in-Fault c = let both = audit_told _ _ _ (sym (audit_fault _ _ _ _ (sym c.decode.ensures ∙ c.in-Step.is) _ (sym c.fault.ensures ∙ c.in-Fault.is)) ∙ c.loop-r.invariant) in record { value = both.0; exact = both.1 }
+returns-in-Fault c = let both = audit_told _ _ _ (sym (audit_fault _ _ _ _ (sym c.decode.ensures ∙ c.in-Step.is) _ (sym c.fault.ensures ∙ c.in-Fault.is)) ∙ c.loop-r.invariant) in record { answer = both.0; exact = both.1 }
 
 pub returns-then-ends : goal.returns-then-ends
-returns-then-ends c = let both = audit_told _ _ _ (sym (audit_last _ _ _ _ (sym c.decode.ensures ∙ c.in-Step.is) (sym c.ends.ensures ∙ c.if-ends.true) (sym c.fault.ensures ∙ c.in-Fine.is)) ∙ c.loop-r.invariant) in record { value = both.0; exact = both.1 }
+returns-then-ends c = let both = audit_told _ _ _ (sym (audit_last _ _ _ _ (sym c.decode.ensures ∙ c.in-Step.is) (sym c.ends.ensures ∙ c.if-ends.true) (sym c.fault.ensures ∙ c.in-Fine.is)) ∙ c.loop-r.invariant) in record { answer = both.0; exact = both.1 }
 
 pub loop-r-smaller : goal.loop-r-smaller
 loop-r-smaller c = let h = decode_inside _ _ _ _ (sym c.decode.ensures ∙ c.in-Step.is) in omega arith

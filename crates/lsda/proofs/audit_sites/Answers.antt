@@ -6,8 +6,8 @@ use Rattle.lsda.proofs.audit_sites.Goals as goal
 
 pub returns-in-Refused : goal.returns-in-Refused
 unfolding audit_sites_of
-returns-in-Refused c = let both = audit_told _ _ _ (rw (sym c.read_header.ensures ∙ c.in-Refused.is)) in record { value = both.0; exact = both.1 }
+returns-in-Refused c = let both = audit_told _ _ _ (rw (sym c.read_header.ensures ∙ c.in-Refused.is)) in record { answer = both.0; exact = both.1 }
 
 pub returns-in-Is : goal.returns-in-Is
 unfolding audit_sites_of
-returns-in-Is c = let both = audit_told _ _ _ (rw (sym c.read_header.ensures ∙ c.in-Is.is) c.all_fit.ensures) in record { value = both.0; exact = both.1 }
+returns-in-Is c = let both = audit_told _ _ _ (rw (sym c.read_header.ensures ∙ c.in-Is.is) c.all_fit.ensures) in record { answer = both.0; exact = both.1 }
