@@ -15,10 +15,10 @@ import sys
 import tempfile
 import time
 
-CRATES = "section pointer instruction entry lsda image search lookup step audit walker bundle audit_image anrukfal anrukfal_c readers readers_c".split()
+CRATES = "section pointer instruction entry lsda image search lookup step audit walker bundle audit_image rows anrukfal anrukfal_c readers readers_c".split()
 OTHER = {"<=": "<", "<": "<=", "==": "!=", "!=": "==", "+": "-", "-": "+", "*": "+", "/": "%", "%": "/"}
-# lines whose edits may be accepted: a constant that only the crates above use, a buffer that may be larger, and what a buffer holds before it is written
-MAY_DIFFER = ("pub const WORDS_MOST", "const MOST", "bytes: [0; ROOM]")
+# lines whose edits may be accepted: a constant that only the crates above use, and a buffer that may be larger
+MAY_DIFFER = ("pub const WORDS_MOST", "const MOST")
 NOT_CODE = re.compile(r"\s*(//|ghost |use |mod |#|ensures|requires|(pub(\(crate\))? )?(extern \"C\" )?(fn|struct|enum|impl)\b|$)")
 
 

@@ -5,20 +5,21 @@ use mathlib.Core.Path.{◌≡◌, refl}
 use native.Mathlib.Omega.{arith}
 use lib.Dec.{leb}
 use lib.ListN.{length}
-use Rattle.section.specs.Check.{on_check, and_then, need}
+use Rattle.std.proofs.Common.{Ok, Err, sym, ap, ◌∙◌}
+use Rattle.audit.specs.declared.Fault.{Fault}
+use Rattle.std.specs.Result.{result_and}
+use Rattle.section.specs.Check.{Answered, Check, fine, need, and_then, on_answer}
 use Rattle.section.specs.Number.{number}
 use Rattle.section.specs.Rule.{table_most}
 use Rattle.section.specs.declared.Addr.{Addr}
 use Rattle.section.specs.declared.Off.{Off}
 use Rattle.section.specs.declared.Refusal.{Refusal}
-use Rattle.section.specs.declared.Check.{Check}
 use Rattle.section.proofs.Checks.{fault_not}
 use Rattle.pointer.specs.Reads.{NoPointer}
 use Rattle.instruction.specs.Program.{Audited}
 use Rattle.instruction.proofs.Program.{audit_audited}
-use Rattle.entry.specs.Index.{function_of, function_at, on_function}
+use Rattle.entry.specs.Index.{function_of, function_at}
 use Rattle.entry.specs.Read.{FunctionGives}
-use Rattle.entry.specs.declared.FunctionRead.{FunctionRead}
 use Rattle.entry.specs.declared.Span.{Span}
 use Rattle.entry.proofs.Laws.{function_gives}
 use Rattle.lsda.specs.Reasons.{Faulty}
@@ -28,24 +29,23 @@ use Rattle.image.specs.Image.{Image, count_of, sections_of, Sections, entry_at, 
 use Rattle.image.specs.Read.{Readable, EntryRefusal, Leads}
 use Rattle.image.specs.declared.Found.{Found}
 use Rattle.image.proofs.Laws.{sections_exact, sections_fault, entry_leads}
-use Rattle.audit.specs.Audit.{words_check, found_check, floor_of, entry_check, first_fault, audit_of}
+use Rattle.audit.specs.Audit.{Verdict, at_fault, words_check, found_check, floor_of, entry_check, first_fault, audit_of}
 use Rattle.audit.specs.Reasons.{EntryFault, NoPass}
-use Rattle.audit.specs.declared.Verdict.{Verdict}
 
 abbrev OfCheck : Check → Type 0
-OfCheck Check.Fine = Unit
-OfCheck (Check.Fault r) = EntryFault r
+OfCheck fine = Unit
+OfCheck (Err r) = EntryFault r
 
-of_and : (a b : Check) → OfCheck a → OfCheck b → OfCheck (and_then a b)
-of_and Check.Fine b p q = q
-of_and (Check.Fault r) b p q = p
+of_and : (a b : Check) → OfCheck a → OfCheck b → OfCheck (result_and a b)
+of_and fine b p q = q
+of_and (Err r) b p q = p
 
 of_need : (t : Bool) → OfCheck (need t Refusal.Unsorted)
 of_need true = tt
 of_need false = EntryFault.unsorted
 
 of_audited : (x : Check) → Audited x → OfCheck x
-of_audited x Audited.fine = tt
+of_audited x Audited.passed = tt
 of_audited x Audited.reserved = EntryFault.reserved
 of_audited x Audited.unsupported = EntryFault.unsupported
 of_audited x Audited.malformed = EntryFault.malformed
@@ -76,10 +76,10 @@ module _ (i : Image) where
   of_sites f o h = go (audit_sites_of (language_of i o) f) refl
     where
       go : (x : Check) → audit_sites_of (language_of i o) f ≡ x → OfCheck x
-      go Check.Fine e = tt
-      go (Check.Fault r) e = of_faulty (length (language_of i o)) h r (audit_why (language_of i o) f r e)
+      go fine e = tt
+      go (Err r) e = of_faulty (length (language_of i o)) h r (audit_why (language_of i o) f r e)
 
-  of_found : (x : Found) → Leads i x → OfCheck (found_check i.index i.table x)
+  of_found : (x : Answered Found) → Leads i x → OfCheck (and_then x (λ y. found_check i.index i.table y))
   unfolding found_check
   of_found x (Leads.cannot _) = tt
   of_found x (Leads.compact {s = s} _ _ w) = of_words s w
@@ -91,39 +91,45 @@ module _ (i : Image) where
     unfolding entry_check
     of_check k l = go (function_at i.index i.index_at k) (function_gives i.index i.index_at k s.index)
       where
-        go : (x : FunctionRead) → FunctionGives i.index i.index_at k x
-            → OfCheck (on_function x (λ f. and_then (need (leb (floor_of i k) f.0) Refusal.Unsorted) (found_check i.index i.table (entry_at i k))) Check.Fault)
+        go : (x : Answered Addr) → FunctionGives i.index i.index_at k x
+            → OfCheck (and_then x (λ f. result_and (need (leb (floor_of i k) f.0) Refusal.Unsorted) (and_then (entry_at i k) (λ y. found_check i.index i.table y))))
         go x (FunctionGives.at _ _) =
             let t = leb (floor_of i k) (function_of i.index i.index_at k).0 in
-            of_and (need t Refusal.Unsorted) (found_check i.index i.table (entry_at i k)) (of_need t) (of_found (entry_at i k) (entry_leads i s k l))
+            of_and (need t Refusal.Unsorted) (and_then (entry_at i k) (λ y. found_check i.index i.table y)) (of_need t) (of_found (entry_at i k) (entry_leads i s k l))
         go x (FunctionGives.corrupt _) = EntryFault.corrupt
         go x (FunctionGives.truncated h) = absurd (omega arith)
 
     abbrev OfVerdict : Verdict → Type 0
-    OfVerdict Verdict.Passed = Unit
-    OfVerdict (Verdict.Fault r k) = NoPass i r k
+    OfVerdict (Ok x) = Unit
+    OfVerdict (Err f) = NoPass i f.refusal f.entry
 
     of_each : (m k : ℕ) → k + m ≤ count_of i → OfVerdict (first_fault (entry_check i) m k)
     unfolding first_fault
     of_each zero k h = tt
     of_each (suc m) k h = go (entry_check i k) (of_check k (omega arith)) (of_each m (k + 1) (omega arith))
       where
-        go : (x : Check) → OfCheck x → OfVerdict (first_fault (entry_check i) m (k + 1)) → OfVerdict (on_check x (first_fault (entry_check i) m (k + 1)) (λ r. Verdict.Fault r k))
-        go Check.Fine p q = q
-        go (Check.Fault r) p q = NoPass.entry {k = k} s (omega arith) p
+        go : (x : Check) → OfCheck x → OfVerdict (first_fault (entry_check i) m (k + 1)) → OfVerdict (on_answer x (λ _. first_fault (entry_check i) m (k + 1)) (at_fault k))
+        go fine p q = q
+        go (Err r) p q = NoPass.entry {k = k} s (omega arith) p
 
-  pub audit_refused : (r : Refusal) (k : ℕ) → audit_of i ≡ Verdict.Fault r k → NoPass i r k
-  unfolding audit_of
+  -- the fault of a verdict
+  fault_in : Fault → Verdict → Fault
+  fault_in d (Ok x) = d
+  fault_in d (Err f) = f
+
+  pub audit_refused : (r : Refusal) (k : ℕ) → audit_of i ≡ at_fault k r → NoPass i r k
+  unfolding audit_of fault_in
   audit_refused r k e = go (sections_of i) refl e
     where
-      told : (s : Sections i) (y : Verdict) → OfVerdict s y → y ≡ Verdict.Fault r k → NoPass i r k
+      told : (s : Sections i) (y : Verdict) → OfVerdict s y → y ≡ at_fault k r → NoPass i r k
       told s y p q = rw q at p
 
-      go : (x : Check) → sections_of i ≡ x → on_check x (first_fault (entry_check i) (count_of i) 0) (λ r. Verdict.Fault r 0) ≡ Verdict.Fault r k → NoPass i r k
-      go Check.Fine p q = told ((sections_exact i).0 p) _ (of_each ((sections_exact i).0 p) (count_of i) 0 (omega arith)) q
-      go (Check.Fault y) p q =
-          let a : r ≡ Refusal.Section = rw (sections_fault i y p) at (let b : r ≡ y = cc in b) in
-          let b : k ≡ 0 = cc in
+      go : (x : Check) → sections_of i ≡ x → on_answer x (λ _. first_fault (entry_check i) (count_of i) 0) (at_fault 0) ≡ at_fault k r → NoPass i r k
+      go fine p q = told ((sections_exact i).0 p) _ (of_each ((sections_exact i).0 p) (count_of i) 0 (omega arith)) q
+      go (Err y) p q =
+          let f = ap (fault_in (record { refusal = y; entry = 0 })) q in
+          let a : r ≡ Refusal.Section = sym (ap (λ (x : Fault). x.refusal) f) ∙ sections_fault i y p in
+          let b : k ≡ 0 = sym (ap (λ (x : Fault). x.entry) f) in
           rw (a, b) (NoPass.section (fault_not (sections_of i) y (sections_exact i) p))
 
 -- an entry's faults in the paper's numbers: 3 to 10 and 13 to 16. So never 2 or 11, which a lookup may answer, and never 12 or 17, which a step may

@@ -1,5 +1,6 @@
 -- What is promised of an image that the audit passes: what has no case here cannot happen.
-use Rattle.std.specs.Prelude.{ℕ, ◌^◌, ◌<◌, ◌≡◌, List, length}
+use Rattle.std.specs.Prelude.{ℕ, ◌^◌, ◌<◌, ◌≡◌, List, length, Ok, Err}
+use Rattle.section.specs.Check.{Answered}
 use Rattle.section.specs.Rule.{stack_most, Section}
 use Rattle.section.specs.declared.Addr.{Addr}
 use Rattle.section.specs.declared.Off.{Off}
@@ -9,7 +10,6 @@ use Rattle.lsda.specs.Header.{header_of}
 use Rattle.lsda.specs.Site.{resolved}
 use Rattle.lsda.specs.Sites.{sites_from, Covers, First, Nowhere}
 use Rattle.lsda.specs.declared.Header.{Header}
-use Rattle.lsda.specs.declared.HeaderRead.{HeaderRead}
 use Rattle.lsda.specs.declared.Site.{Site}
 use Rattle.image.specs.Image.{Image, count_of, entry_at, language_of}
 use Rattle.image.specs.declared.Found.{Found}
@@ -32,21 +32,21 @@ pub record Stretch (i : Image) (c : Addr) (k : ℕ) : Type 0 where
 pub record Generic (i : Image) (k : ℕ) (p : Addr) (h : Header) : Type 0 where
   pub span : Span
   pub language : Off
-  pub leads : entry_at i k ≡ Found.Generic (start_of i k) p span language
-  pub header : header_of (language_of i language) (start_of i k) ≡ HeaderRead.Is h
+  pub leads : entry_at i k ≡ Ok (Found.Generic (start_of i k) p span language)
+  pub header : header_of (language_of i language) (start_of i k) ≡ Ok h
 
 -- a lookup's answer: that entry with its function's address, and of a generic one the first site that covers the counter; 2 where no function starts at
 -- or below the counter; 11 where no site of that entry covers it
-pub data LookupGives (i : Image) (c : Addr) : Looked → Type 0 where
-  no_entry : ((k : ℕ) → k < count_of i → c.0 < (start_of i k).0) → LookupGives i c (Looked.Refused Refusal.NoEntry)
-  cannot : {k : ℕ} → Stretch i c k → entry_at i k ≡ Found.CannotUnwind (start_of i k) → LookupGives i c (Looked.CannotUnwind k (start_of i k))
-  compact : {k n : ℕ} {s : Span} → Stretch i c k → entry_at i k ≡ Found.Compact (start_of i k) n s → LookupGives i c (Looked.Compact k (start_of i k) s.held n)
+pub data LookupGives (i : Image) (c : Addr) : Answered Looked → Type 0 where
+  no_entry : ((k : ℕ) → k < count_of i → c.0 < (start_of i k).0) → LookupGives i c (Err Refusal.NoEntry)
+  cannot : {k : ℕ} → Stretch i c k → entry_at i k ≡ Ok (Found.CannotUnwind (start_of i k)) → LookupGives i c (Ok (Looked.CannotUnwind k (start_of i k)))
+  compact : {k n : ℕ} {s : Span} → Stretch i c k → entry_at i k ≡ Ok (Found.Compact (start_of i k) n s) → LookupGives i c (Ok (Looked.Compact k (start_of i k) s.held n))
   site : {k : ℕ} {p : Addr} {h : Header} {x : Site} → Stretch i c k → (g : Generic i k p h)
       → First (Covers c) (sites_from (language_of i g.language) h h.start.0) x
-      → LookupGives i c (Looked.Generic k (start_of i k) p (resolved h.base x))
+      → LookupGives i c (Ok (Looked.Generic k (start_of i k) p (resolved h.base x)))
   no_site : {k : ℕ} {p : Addr} {h : Header} → Stretch i c k → (g : Generic i k p h)
       → Nowhere (Covers c) (sites_from (language_of i g.language) h h.start.0)
-      → LookupGives i c (Looked.Refused Refusal.NoSite)
+      → LookupGives i c (Err Refusal.NoSite)
 
 -- in the paper's numbers: 0, 2 or 11
 pub data LookupNumber : ℕ → Type 0 where
@@ -55,12 +55,12 @@ pub data LookupNumber : ℕ → Type 0 where
   no_site : LookupNumber 11
 
 -- where a step leads: the next frame, cannot-unwind, 2, 12 or 17
-pub data StepGives : Arrival → Type 0 where
-  frame : StepGives Arrival.Frame
-  cannot : StepGives Arrival.CannotUnwind
-  no_entry : StepGives (Arrival.Refused Refusal.NoEntry)
-  refused : StepGives (Arrival.Refused Refusal.Refused)
-  stack : StepGives (Arrival.Refused Refusal.Stack)
+pub data StepGives : Answered Arrival → Type 0 where
+  frame : {n : ℕ} → StepGives (Ok (Arrival.Frame n))
+  cannot : StepGives (Ok Arrival.CannotUnwind)
+  no_entry : StepGives (Err Refusal.NoEntry)
+  refused : StepGives (Err Refusal.Refused)
+  stack : StepGives (Err Refusal.Stack)
 
 -- in the paper's numbers: 0, 2, 12 or 17
 pub data StepNumber : ℕ → Type 0 where

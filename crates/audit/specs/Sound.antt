@@ -1,5 +1,6 @@
 -- The images that the audit passes, as the paper describes them and without the walk.
-use Rattle.std.specs.Prelude.{ℕ, suc, ◌*◌, ◌^◌, ◌<◌, ◌≡◌}
+use Rattle.std.specs.Prelude.{ℕ, suc, ◌*◌, ◌^◌, ◌<◌, ◌≡◌, Ok}
+use Rattle.section.specs.Check.{Answered}
 use Rattle.section.specs.Word.{word}
 use Rattle.section.specs.declared.Addr.{Addr}
 use Rattle.section.specs.declared.Off.{Off}
@@ -11,10 +12,10 @@ use Rattle.image.specs.Image.{Image, count_of, Sections, entry_at, words_of, lan
 use Rattle.image.specs.declared.Found.{Found}
 
 -- content cannot-unwind; or an entry that was read, whose instructions can all be executed, and if it is generic, whose header and call sites read and fit
-pub data SoundFound (i : Image) : Found → Type 0 where
-  cannot : {f : Addr} → SoundFound i (Found.CannotUnwind f)
-  compact : {f : Addr} {n : ℕ} {s : Span} → CleanInstructions (words_of i s) s.skip → SoundFound i (Found.Compact f n s)
-  generic : {f p : Addr} {s : Span} {o : Off} → CleanInstructions (words_of i s) s.skip → CleanSites (language_of i o) f → SoundFound i (Found.Generic f p s o)
+pub data SoundFound (i : Image) : Answered Found → Type 0 where
+  cannot : {f : Addr} → SoundFound i (Ok (Found.CannotUnwind f))
+  compact : {f : Addr} {n : ℕ} {s : Span} → CleanInstructions (words_of i s) s.skip → SoundFound i (Ok (Found.Compact f n s))
+  generic : {f p : Addr} {s : Span} {o : Off} → CleanInstructions (words_of i s) s.skip → CleanSites (language_of i o) f → SoundFound i (Ok (Found.Generic f p s o))
 
 abbrev pub start_of : Image → ℕ → Addr
 start_of i k = function_of i.index i.index_at k

@@ -1,4 +1,1 @@
-mod Copy
-mod Decimal
-mod Lines
 mod Inputs

@@ -7,17 +7,16 @@ use lib.ListN.{length, take}
 use lib.Seq.{get_or-take, length-take-le, take_all}
 use lib.Dec.{leb, eqb}
 use borrow.Author.Tests.{leb-true, leb-false, eqb-true, eqb-false}
+use Rattle.std.proofs.Common.{Err, Some}
 use Rattle.section.specs.Place.{addr}
 use Rattle.section.specs.Word.{word, word_at}
 use Rattle.section.specs.declared.Addr.{Addr}
 use Rattle.section.specs.declared.Refusal.{Refusal}
-use Rattle.section.specs.declared.Word.TheVariants.{At}
 use Rattle.section.proofs.Picks.{by_test}
 use Rattle.section.proofs.Words.{word_in}
-use Rattle.bundle.specs.Bundle.{most_bytes, most_entries, most_words, from_words, from_entries, bundle_of}
+use Rattle.bundle.specs.Bundle.{BundleRead, most_bytes, most_entries, most_words, from_words, from_entries, bundle_of}
 use Rattle.bundle.specs.Audit.{audit_bundle_of}
 use Rattle.bundle.specs.Read.{BundleGives}
-use Rattle.bundle.specs.declared.BundleRead.{BundleRead}
 use Rattle.bundle.proofs.Laws.{words_many, words_length, entries_many, entries_on, bundle_first, bundle_on, audit_refused}
 use Rattle.bundle.proofs.Placed.{bundle_gives}
 
@@ -26,11 +25,11 @@ unfolding word
 word_same xs k o h = rw (get_or-take k xs (o + 0) 0 (omega arith), get_or-take k xs (o + 1) 0 (omega arith), get_or-take k xs (o + 2) 0 (omega arith), get_or-take k xs (o + 3) 0 (omega arith))
 
 module _ (xs : List ℕ) (k : ℕ) (more : most_bytes < k) (long : k ≤ length xs) where
-  there : (o : ℕ) → o + 4 ≤ k → word_at xs o ≡ At (word xs o)
+  there : (o : ℕ) → o + 4 ≤ k → word_at xs o ≡ Some (word xs o)
   there o h = word_in xs o (omega arith)
 
-  first_there : (o : ℕ) → o + 4 ≤ k → word_at (take k xs) o ≡ At (word xs o)
-  first_there o h = let e = length-take-le k xs long in word_in (take k xs) o (omega arith) ∙ ap At (word_same xs k o h)
+  first_there : (o : ℕ) → o + 4 ≤ k → word_at (take k xs) o ≡ Some (word xs o)
+  first_there o h = let e = length-take-le k xs long in word_in (take k xs) o (omega arith) ∙ ap Some (word_same xs k o h)
 
   words_same : (a b : Addr) (n : ℕ) → n ≤ most_entries → from_words (take k xs) a b n ≡ from_words xs a b n
   words_same a b n h =
@@ -71,7 +70,7 @@ module _ (xs : List ℕ) (k : ℕ) (more : most_bytes < k) (long : k ≤ length 
   audit_same_long : (fill : ℕ) → audit_bundle_of (take k xs) fill ≡ audit_bundle_of xs fill
   audit_same_long fill = go (bundle_of xs) refl (bundle_gives xs)
     where
-      both : (r : Refusal) → bundle_of xs ≡ BundleRead.Refused r → audit_bundle_of (take k xs) fill ≡ audit_bundle_of xs fill
+      both : (r : Refusal) → bundle_of xs ≡ Err r → audit_bundle_of (take k xs) fill ≡ audit_bundle_of xs fill
       both r e = audit_refused (take k xs) fill r (bundle_same ∙ e) ∙ sym (audit_refused xs fill r e)
 
       go : (x : BundleRead) → bundle_of xs ≡ x → BundleGives (length xs) x → audit_bundle_of (take k xs) fill ≡ audit_bundle_of xs fill

@@ -8,25 +8,25 @@ use lib.ListN.{length}
 use lib.Dec.{leb, eqb}
 use borrow.Author.Tests.{leb-true}
 use denote.Ref.{Bor}
-use Rattle.section.specs.Check.{on_check}
+use Rattle.std.proofs.Common.{Ok, Err, Some, None, Option}
+use Rattle.std.specs.Option.{ok_or}
+use Rattle.std.specs.Result.{result_and}
+use Rattle.section.specs.Check.{Check, fine, and_then}
 use Rattle.section.specs.Rule.{table_most, index_rule, table_rule}
 use Rattle.section.specs.View.{bytes_of, Part, part_from}
-use Rattle.section.specs.Word.{word_at, on_word}
+use Rattle.section.specs.Word.{word_at}
 use Rattle.section.specs.declared.Addr.{Addr}
 use Rattle.section.specs.declared.Refusal.{Refusal}
-use Rattle.section.specs.declared.Check.{Check}
-use Rattle.section.specs.declared.Word.{Word}
 use Rattle.section.proofs.Rules.{section_exact, index_exact, rule_fault, index_fault}
 use Rattle.section.proofs.Views.{spot_in}
-use Rattle.bundle.specs.Bundle.{most_entries, most_words, tested, laid_of, from_words, from_entries, bundle_of}
+use Rattle.bundle.specs.Bundle.{BundleRead, most_entries, most_words, tested, laid_of, from_words, from_entries, bundle_of}
 use Rattle.bundle.specs.Read.{Placed, BundleGives}
 use Rattle.bundle.specs.declared.Bundle.{Bundle}
-use Rattle.bundle.specs.declared.BundleRead.{BundleRead}
 
 module _ (len : ℕ) where
-  counted_gives : (x : Word) (go : ℕ → BundleRead) → ((n : ℕ) → BundleGives len (go n)) → BundleGives len (on_word x go (BundleRead.Refused Refusal.Bundle))
-  counted_gives (Word.At n) go h = h n
-  counted_gives Word.Short go h = BundleGives.bundle
+  counted_gives : (x : Option ℕ) (go : ℕ → BundleRead) → ((n : ℕ) → BundleGives len (go n)) → BundleGives len (and_then (ok_or x Refusal.Bundle) go)
+  counted_gives (Some n) go h = h n
+  counted_gives None go h = BundleGives.bundle
 
   tested_bundle : (t : Bool) (x : BundleRead) → (t ≡ true → BundleGives len x) → BundleGives len (tested t Refusal.Bundle x)
   tested_bundle true x h = h refl
@@ -37,9 +37,9 @@ module _ (len : ℕ) where
   tested_section false x h = BundleGives.section
 
   -- a section rule's only fault is 1
-  checked_gives : (x : Check) (y : BundleRead) → ((r : Refusal) → x ≡ Check.Fault r → r ≡ Refusal.Section) → (x ≡ Check.Fine → BundleGives len y) → BundleGives len (on_check x y BundleRead.Refused)
-  checked_gives Check.Fine y f h = h refl
-  checked_gives (Check.Fault r) y f h = rw (f r refl) BundleGives.section
+  checked_gives : (x : Check) (y : BundleRead) → ((r : Refusal) → x ≡ Err r → r ≡ Refusal.Section) → (x ≡ fine → BundleGives len y) → BundleGives len (result_and x y)
+  checked_gives fine y f h = h refl
+  checked_gives (Err r) y f h = rw (f r refl) BundleGives.section
 
   laid_gives : (a b : Addr) (n m : ℕ) → len ≡ 20 + 8 * n + 4 * m → BundleGives len (laid_of a b n m)
   unfolding laid_of
@@ -74,10 +74,10 @@ module _ (xs : List ℕ) where
       tested_bundle (length xs) (eqb first 2) _ (λ p.
       tested_bundle (length xs) (leb 12 (length xs)) _ (λ q. entries_gives _ _)))
 
-  pub bundle_placed : (b : Bundle) → bundle_of xs ≡ BundleRead.Is b → Placed (length xs) b
-  bundle_placed b e = go (BundleRead.Is b) refl (rw e at bundle_gives)
+  pub bundle_placed : (b : Bundle) → bundle_of xs ≡ Ok b → Placed (length xs) b
+  bundle_placed b e = go (Ok b) refl (rw e at bundle_gives)
     where
-      go : (x : BundleRead) → x ≡ BundleRead.Is b → BundleGives (length xs) x → Placed (length xs) b
+      go : (x : BundleRead) → x ≡ Ok b → BundleGives (length xs) x → Placed (length xs) b
       go x e (BundleGives.is {b = c} p) = let q : c ≡ b = cc in rw q at p
       go x e BundleGives.bundle = let z : ◌≡◌ {A = ℕ} 0 1 = cc in absurd (omega arith)
       go x e BundleGives.section = let z : ◌≡◌ {A = ℕ} 0 1 = cc in absurd (omega arith)

@@ -1,9 +1,9 @@
 -- What reading a bundle can give: what has no case here cannot happen.
-use Rattle.std.specs.Prelude.{ℕ, ◌+◌, ◌≡◌}
+use Rattle.std.specs.Prelude.{ℕ, ◌+◌, ◌≡◌, Ok, Err}
 use Rattle.section.specs.Rule.{table_most, Section, IndexSection}
 use Rattle.section.specs.declared.Refusal.{Refusal}
 use Rattle.bundle.specs.declared.Bundle.{Bundle}
-use Rattle.bundle.specs.declared.BundleRead.{BundleRead}
+use Rattle.bundle.specs.Bundle.{BundleRead}
 
 -- both sections lie in the bundle, one after the other up to its end, and meet the section rule where they are meant to stand
 pub record Placed (len : ℕ) (b : Bundle) : Type 0 where
@@ -15,6 +15,6 @@ pub record Placed (len : ℕ) (b : Bundle) : Type 0 where
 
 -- a bundle, 18 or 1
 pub data BundleGives (len : ℕ) : BundleRead → Type 0 where
-  is : {b : Bundle} → Placed len b → BundleGives len (BundleRead.Is b)
-  bundle : BundleGives len (BundleRead.Refused Refusal.Bundle)
-  section : BundleGives len (BundleRead.Refused Refusal.Section)
+  is : {b : Bundle} → Placed len b → BundleGives len (Ok b)
+  bundle : BundleGives len (Err Refusal.Bundle)
+  section : BundleGives len (Err Refusal.Section)

@@ -2,13 +2,15 @@
 #![tactic(auto)]
 
 ghost use Rattle.std.specs.Prelude.{◌≡◌, ◌↔◌, ℕ};
-ghost use Rattle.section.specs.declared.Refusal.{Refusal};
+ghost use Rattle.audit.specs.declared.Fault.{Fault};
+ghost use Rattle.bundle.specs.declared.BundleFault.{BundleFault};
 ghost use Rattle.bundle.specs.Audit.{fill_rule, audit_bundle_of};
 ghost use Rattle.bundle.specs.Bundle.{bundle_of};
 ghost use Rattle.bundle.specs.Promise.{SoundBundle, BundlePromise, FaultyEntry};
 
-use audit::Verdict;
-use section::{Addr, Check, Off, Refusal, Word};
+use audit::Fault;
+use image::Image;
+use section::{Addr, Off, Refusal, Section};
 
 mod read;
 
@@ -23,79 +25,71 @@ pub struct Bundle {
     pub table_bytes: u32,
 }
 
-#[derive(Clone, Copy)]
-pub enum BundleRead {
-    Is(Bundle),
-    Refused(Refusal),
-}
-
 // Reads a bundle: every test of the paper, in its order.
-#[tactic(auto, using(crate::proofs::Laws::bundle_first, crate::proofs::Laws::bundle_short, crate::proofs::Laws::bundle_early, crate::proofs::Laws::bundle_on, section::proofs::Words::word_gone))]
-pub fn read_bundle(bytes: &[u8]) -> BundleRead
+#[tactic(auto, using(crate::proofs::Laws::bundle_short, crate::proofs::Laws::bundle_first, crate::proofs::Laws::bundle_early, crate::proofs::Laws::bundle_on, section::proofs::Words::word_gone))]
+pub fn read_bundle(bytes: &[u8]) -> Result<Bundle, Refusal>
     ensures { result ≡ bundle_of bytes.now }
 {
-    match section::word_at(bytes, Off(0)) {
-        Word::Short => BundleRead::Refused(Refusal::Bundle),
-        Word::At(first) => {
-            if first != 2 {
-                return BundleRead::Refused(Refusal::Bundle);
-            }
-            match section::word_at(bytes, Off(4)) {
-                Word::Short => BundleRead::Refused(Refusal::Bundle),
-                Word::At(index) => match section::word_at(bytes, Off(8)) {
-                    Word::Short => BundleRead::Refused(Refusal::Bundle),
-                    Word::At(table) => read::from_entries(bytes, Addr(index), Addr(table)),
-                },
-            }
-        }
+    let first = read::count_at(bytes, Off(0))?;
+    if first != 2 {
+        return Err(Refusal::Bundle);
     }
+    let index = read::count_at(bytes, Off(4))?;
+    let table = read::count_at(bytes, Off(8))?;
+    read::from_entries(bytes, Addr(index), Addr(table))
 }
 
-// What the audit of a bundle says: the entries of one that passes; a fault of an entry; or a fault of the bundle or of a section.
-#[derive(Clone, Copy)]
-pub enum Report {
-    Passed(u32),
-    Entry(Refusal, u32),
-    Fault(Refusal),
+// Why a bundle does not pass: a fault of an entry, or of the bundle or a section.
+#[derive(Clone, Copy, Debug, PartialEq, Eq)]
+pub enum BundleFault {
+    Entry(Fault),
+    Bundle(Refusal),
+}
+
+impl From<Refusal> for BundleFault {
+    ghost from_gives = { λ r f. f ≡ BundleFault.Bundle r };
+
+    fn from(r: Refusal) -> BundleFault {
+        BundleFault::Bundle(r)
+    }
 }
 
 // Whether the last `fill` bytes of a table can only fill its last word.
-fn fill_rule(fill: u32, table_bytes: u32) -> Check
+#[tactic(auto, unfolding(crate::specs::Audit::fill_rule))]
+fn fill_rule(fill: u32, table_bytes: u32) -> Result<(), Refusal>
     ensures { result ≡ fill_rule fill table_bytes }
 {
     if 3 < fill {
-        return Check::Fault(Refusal::Bundle);
+        return Err(Refusal::Bundle);
     }
     if table_bytes < fill {
-        return Check::Fault(Refusal::Bundle);
+        return Err(Refusal::Bundle);
     }
-    Check::Fine
+    Ok(())
 }
 
-// Reads a bundle and audits its image, whose table ends before the bundle's last `fill` bytes. The sections of a bundle that was read pass, so a fault
-// of the audit is an entry's.
-pub fn audit_bundle(bytes: &[u8], fill: u32) -> Report
-    ensures demand_three { (n : ℕ) → result ≡ Report.Passed n → BundlePromise bytes.now fill }
-    ensures passes_exactly { (n : ℕ) → (result ≡ Report.Passed n) ↔ SoundBundle bytes.now fill n }
-    ensures entry_fault { (f : Refusal) (k : ℕ) → result ≡ Report.Entry f k → FaultyEntry bytes.now fill f k }
+// Reads a bundle and audits its image, whose table ends before the bundle's last `fill` bytes. Answers how many entries pass.
+pub fn audit_bundle(bytes: &[u8], fill: u32) -> Result<u32, BundleFault>
+    ensures demand_three { (n : ℕ) → result ≡ Ok n → BundlePromise bytes.now fill }
+    ensures passes_exactly { (n : ℕ) → (result ≡ Ok n) ↔ SoundBundle bytes.now fill n }
+    ensures entry_fault { (f : Fault) → result ≡ Err (BundleFault.Entry f) → FaultyEntry bytes.now fill f.refusal f.entry }
     ensures answer { result ≡ audit_bundle_of bytes.now fill }
 {
-    match read_bundle(bytes) {
-        BundleRead::Refused(r) => Report::Fault(r),
-        BundleRead::Is(b) => match fill_rule(fill, b.table_bytes) {
-            Check::Fault(r) => Report::Fault(r),
-            Check::Fine => {
-                let index = section::part(bytes, b.index.0 as usize, b.index_bytes as usize);
-                let table = section::part(
-                    bytes,
-                    b.table.0 as usize,
-                    (b.table_bytes - fill) as usize,
-                );
-                match audit::audit(index, b.index_address, table, b.table_address) {
-                    Verdict::Passed => Report::Passed(b.index_bytes / 8),
-                    Verdict::Fault(r, entry) => Report::Entry(r, entry),
-                }
-            }
+    let b = read_bundle(bytes)?;
+    fill_rule(fill, b.table_bytes)?;
+    let image = Image {
+        index: Section {
+            bytes: section::part(bytes, b.index.0 as usize, b.index_bytes as usize),
+            at: b.index_address,
         },
+        table: Section {
+            bytes: section::part(bytes, b.table.0 as usize, (b.table_bytes - fill) as usize),
+            at: b.table_address,
+        },
+    };
+    // The sections of a bundle that was read pass, so a fault of the audit is an entry's.
+    match audit::audit(image) {
+        Ok(()) => Ok(b.index_bytes / 8),
+        Err(fault) => Err(BundleFault::Entry(fault)),
     }
 }

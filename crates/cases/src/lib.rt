@@ -1,16 +1,23 @@
 // Runs cases that a text lists, one to a line: each line is written again with its answer, the refusal's number and the row, in hex.
 #![tactic(auto)]
 
-use crate::text::ROOM;
+use crate::text::{ROOM, bytes, number};
+use anrukfal::{
+    anrukfal_bundle, anrukfal_call_site, anrukfal_index_entry, anrukfal_instruction,
+    anrukfal_pointer, anrukfal_prel31, anrukfal_search, anrukfal_table_entry,
+};
 
 mod images;
 mod text;
 
-// The numbers of a row.
-pub(crate) fn show_row(row: &[u32]) {
-    for i in 0..row.len() {
+// The longest text.
+const MOST: usize = 262144;
+
+// The numbers of a row. Written by the kit's io: what prints by a format trusts one more call of the system.
+pub(crate) fn show_row<T: Copy + Into<u64>>(row: &[T]) {
+    for x in row {
         io::write_all(1, b" ");
-        io::print_hex(1, row[i] as u64, 1);
+        io::print_hex(1, (*x).into(), 1);
     }
 }
 
@@ -29,59 +36,47 @@ fn answer(name: u8, a: u32, b: u32, data: &[u8]) {
     let mut five = [1u32; 5];
     let mut six = [1u32; 6];
     match name {
-        b'r' => show(0, &[anrukfal::anrukfal_prel31(a, b)]),
-        b'p' => show(
-            anrukfal::anrukfal_pointer(data, b, (a % 256) as u8, &mut two),
-            &two,
-        ),
-        b'i' => show(anrukfal::anrukfal_instruction(data, a, &mut four), &four),
-        b'e' => show(anrukfal::anrukfal_index_entry(data, a, b, &mut six), &six),
-        b't' => show(anrukfal::anrukfal_table_entry(data, a, b, &mut six), &six),
-        b'c' => show(anrukfal::anrukfal_call_site(data, a, b, &mut five), &five),
-        b's' => show(anrukfal::anrukfal_search(data, a, b, &mut two), &two),
-        b'b' => show(anrukfal::anrukfal_bundle(data, &mut six), &six),
+        b'r' => show(0, &[anrukfal_prel31(a, b)]),
+        b'p' => show(anrukfal_pointer(data, b, (a % 256) as u8, &mut two), &two),
+        b'i' => show(anrukfal_instruction(data, a, &mut four), &four),
+        b'e' => show(anrukfal_index_entry(data, a, b, &mut six), &six),
+        b't' => show(anrukfal_table_entry(data, a, b, &mut six), &six),
+        b'c' => show(anrukfal_call_site(data, a, b, &mut five), &five),
+        b's' => show(anrukfal_search(data, a, b, &mut two), &two),
+        b'b' => show(anrukfal_bundle(data, &mut six), &six),
         _ => {}
     }
 }
 
-// One case: the first letter of its name says which call it is, and so which of its words are bytes.
-fn case(name: u8, line: &[u8]) {
-    let mut bytes = [0u8; ROOM];
-    match name {
-        b'l' | b'a' | b'f' => images::answer(name, line),
-        _ => {
-            let word = match name {
-                b'b' => 1,
-                b'i' => 2,
-                _ => 3,
-            };
-            let n = text::fill(line, word, &mut bytes);
-            answer(
-                name,
-                text::number(line, 1),
-                text::number(line, 2),
-                text::head(&bytes, n),
-            );
-        }
-    }
+// One case: the first letter of its name says which call it is, and so which of its words are bytes. The letter comes from the text, so it is matched.
+fn case(line: &[u8]) {
+    let Some(name) = line.first().copied() else {
+        return;
+    };
+    let word = match name {
+        b'l' | b'a' | b'f' => return images::answer(name, line),
+        b'b' => 1,
+        b'i' => 2,
+        _ => 3,
+    };
+    let mut room = [0u8; ROOM];
+    let data = bytes(line, word, &mut room);
+    answer(name, number(line, 1), number(line, 2), data);
 }
 
 // Every line of a text.
 fn each(text: &[u8]) {
-    let mut at: usize = 0;
-    while at < text.len() {
-        let end = text::line_end(text, at);
-        let line = &text[at..end];
+    for line in text.split_inclusive(|b| *b == b'\n') {
+        let line = line.strip_suffix(b"\n").unwrap_or(line);
         io::write_all(1, line);
-        case(text[at], line);
+        case(line);
         io::write_all(1, b"\n");
-        at = end + 1;
     }
 }
 
-// The cases of standard input.
+// The cases of standard input, read by the kit's io for the same reason: into a room, with a count.
 pub fn run() {
-    let mut text = [0u8; 262144];
+    let mut text = [0u8; MOST];
     let n = io::read_full(0, &mut text);
     each(&text[..n]);
 }

@@ -1,12 +1,11 @@
 -- The paper's cases marked [t], in one table: what is read, and the answer in the paper's numbers.
-use Rattle.std.specs.Prelude.{ℕ, List, [], ◌∷◌, ◌++◌, length}
+use Rattle.std.specs.Prelude.{ℕ, List, [], ◌∷◌, ◌++◌, length, Ok, Err, Some, None}
 use Rattle.section.specs.Answer.{Answer, given, refused}
 use Rattle.section.specs.declared.Refusal.{Refusal}
 use Rattle.section.specs.Walk.{Look, last, bad, item, Trail, end, stop, more, trail_of}
 use Rattle.section.specs.Word.{word}
 use Rattle.instruction.specs.Answers.{decoded_answer}
-use Rattle.instruction.specs.Decode.{decode_of}
-use Rattle.instruction.specs.declared.Decoded.{Decoded}
+use Rattle.instruction.specs.Decode.{Decoded, decode_of}
 use Rattle.entry.specs.Answers.{content_row}
 use Rattle.entry.specs.Index.{content_of}
 use Rattle.entry.specs.Parts.{words_in}
@@ -27,9 +26,9 @@ pub data Asked : Type 0 where
 
 -- the row of what is decoded at a position; a Finish does not end the list
 abbrev pub row_of : ℕ → Decoded → Look ℕ (List ℕ)
-row_of at (Decoded.Step i next) = item (decoded_answer at (Decoded.Step i next)).row next
-row_of at Decoded.End = last (decoded_answer at Decoded.End).row
-row_of at (Decoded.Refused r) = bad r
+row_of at (Ok (Some s)) = item (decoded_answer at (Ok (Some s))).row s.1
+row_of at (Ok None) = last (decoded_answer at (Ok None)).row
+row_of at (Err r) = bad r
 
 unfoldable pub joined : Trail (List ℕ) → List ℕ
 joined end = []

@@ -1,11 +1,12 @@
 -- The parts of the two sections that entries name: instruction words and language data.
-use Rattle.std.specs.Prelude.{ℕ, ◌*◌, List, length}
+use Rattle.std.specs.Prelude.{ℕ, ◌*◌, List, length, Ok, Err}
 use Rattle.std.specs.Borrow.{Bor}
+use Rattle.section.specs.Check.{Answered}
 use Rattle.section.specs.View.{Spot, bytes_of, Part, part_from, suffix_from}
 use Rattle.section.specs.declared.Off.{Off}
 use Rattle.entry.specs.declared.Held.{Held}
 use Rattle.entry.specs.declared.Span.{Span}
-use Rattle.entry.specs.declared.TableRead.{TableRead}
+use Rattle.entry.specs.declared.TableEntry.{TableEntry}
 
 -- index or table, whichever held the words
 abbrev pub chosen : {X : Type 0} → Held → X → X → X
@@ -25,9 +26,9 @@ abbrev pub language_spot : ℕ → Off → Spot
 language_spot len o = suffix_from len o.0
 
 -- that of what was read: of an entry, from its end on
-abbrev pub language_read : ℕ → TableRead → Spot
-language_read len (TableRead.Entry e) = language_spot len e.language
-language_read len (TableRead.Refused r) = (0, 0)
+abbrev pub language_read : ℕ → Answered TableEntry → Spot
+language_read len (Ok e) = language_spot len e.language
+language_read len (Err r) = (0, 0)
 
 -- ---- their bytes
 abbrev pub words_in : List ℕ → Span → List ℕ

@@ -1,5 +1,6 @@
 -- What the readers can give where the section passes: what has no case here cannot happen.
-use Rattle.std.specs.Prelude.{ℕ, ◌+◌, ◌*◌, ◌^◌, ◌≤◌, ◌<◌, ◌≡◌, List, length}
+use Rattle.std.specs.Prelude.{ℕ, ◌+◌, ◌*◌, ◌^◌, ◌≤◌, ◌<◌, ◌≡◌, List, length, Ok, Err}
+use Rattle.section.specs.Check.{Answered}
 use Rattle.section.specs.Rule.{words_most, IndexSection}
 use Rattle.section.specs.Word.{word}
 use Rattle.section.specs.declared.Addr.{Addr}
@@ -11,10 +12,6 @@ use Rattle.entry.specs.declared.Span.{Span}
 use Rattle.entry.specs.declared.Content.{Content}
 use Rattle.entry.specs.declared.IndexEntry.{IndexEntry}
 use Rattle.entry.specs.declared.TableEntry.{TableEntry}
-use Rattle.entry.specs.declared.FunctionRead.{FunctionRead}
-use Rattle.entry.specs.declared.ContentRead.{ContentRead}
-use Rattle.entry.specs.declared.IndexRead.{IndexRead}
-use Rattle.entry.specs.declared.TableRead.{TableRead}
 
 -- at least one word, all of them in a section of len bytes, of which 1 or 2 bytes are skipped
 pub record Inside (len : ℕ) (n : Span) : Type 0 where
@@ -31,10 +28,10 @@ pub data Contents (len : ℕ) : Content → Type 0 where
   table : {a : Addr} → a.0 < 2 ^ 32 → Contents len (Content.Table a)
 
 -- a function, or 3; 6 exactly at or past the count
-pub data FunctionGives (xs : List ℕ) (a : Addr) (k : ℕ) : FunctionRead → Type 0 where
-  at : k < entries xs → (function_of xs a k).0 < 2 ^ 32 → FunctionGives xs a k (FunctionRead.At (function_of xs a k))
-  corrupt : k < entries xs → FunctionGives xs a k (FunctionRead.Refused Refusal.Corrupt)
-  truncated : entries xs ≤ k → FunctionGives xs a k (FunctionRead.Refused Refusal.Truncated)
+pub data FunctionGives (xs : List ℕ) (a : Addr) (k : ℕ) : Answered Addr → Type 0 where
+  at : k < entries xs → (function_of xs a k).0 < 2 ^ 32 → FunctionGives xs a k (Ok (function_of xs a k))
+  corrupt : k < entries xs → FunctionGives xs a k (Err Refusal.Corrupt)
+  truncated : entries xs ≤ k → FunctionGives xs a k (Err Refusal.Truncated)
 
 -- what a function that was read tells
 pub record FunctionTold (xs : List ℕ) (a : Addr) (k : ℕ) (f : Addr) : Type 0 where
@@ -43,14 +40,14 @@ pub record FunctionTold (xs : List ℕ) (a : Addr) (k : ℕ) (f : Addr) : Type 0
   pub sound : word xs (8 * k) < 2 ^ 31
   pub is : f ≡ function_of xs a k
 
-pub data ContentGives (xs : List ℕ) (k : ℕ) : ContentRead → Type 0 where
-  is : {c : Content} → k < entries xs → Contents (length xs) c → ContentGives xs k (ContentRead.Is c)
-  truncated : entries xs ≤ k → ContentGives xs k (ContentRead.Refused Refusal.Truncated)
+pub data ContentGives (xs : List ℕ) (k : ℕ) : Answered Content → Type 0 where
+  is : {c : Content} → k < entries xs → Contents (length xs) c → ContentGives xs k (Ok c)
+  truncated : entries xs ≤ k → ContentGives xs k (Err Refusal.Truncated)
 
-pub data IndexGives (xs : List ℕ) (k : ℕ) : IndexRead → Type 0 where
-  entry : {e : IndexEntry} → k < entries xs → e.function.0 < 2 ^ 32 → Contents (length xs) e.content → IndexGives xs k (IndexRead.Entry e)
-  corrupt : k < entries xs → IndexGives xs k (IndexRead.Refused Refusal.Corrupt)
-  truncated : entries xs ≤ k → IndexGives xs k (IndexRead.Refused Refusal.Truncated)
+pub data IndexGives (xs : List ℕ) (k : ℕ) : Answered IndexEntry → Type 0 where
+  entry : {e : IndexEntry} → k < entries xs → e.function.0 < 2 ^ 32 → Contents (length xs) e.content → IndexGives xs k (Ok e)
+  corrupt : k < entries xs → IndexGives xs k (Err Refusal.Corrupt)
+  truncated : entries xs ≤ k → IndexGives xs k (Err Refusal.Truncated)
 
 -- who unwinds an entry of the table: a selector that is known, or an address
 pub data Known : Personality → Type 0 where
@@ -70,6 +67,6 @@ pub data TableRefusal : Refusal → Type 0 where
   truncated : TableRefusal Refusal.Truncated
   selector : TableRefusal Refusal.Selector
 
-pub data TableGives (len : ℕ) : TableRead → Type 0 where
-  entry : {e : TableEntry} → Entered len e → TableGives len (TableRead.Entry e)
-  refused : {r : Refusal} → TableRefusal r → TableGives len (TableRead.Refused r)
+pub data TableGives (len : ℕ) : Answered TableEntry → Type 0 where
+  entry : {e : TableEntry} → Entered len e → TableGives len (Ok e)
+  refused : {r : Refusal} → TableRefusal r → TableGives len (Err r)

@@ -5,57 +5,55 @@ ghost use Rattle.section.specs.Rule.{index_most};
 ghost use Rattle.section.specs.Word.{word};
 ghost use Rattle.entry.specs.Index.{entries, numbered, function_in, content_of};
 
-use crate::{Content, FunctionRead, Held, Personality, Span};
-use section::{Addr, Check, Off, Refusal};
+use crate::{Content, Held, Personality, Span};
+use section::{Addr, Off, Refusal, Section};
 
-// Whether an index of `len` bytes may stand there and has an entry of this number.
-pub(crate) fn numbered(len: usize, index_address: Addr, number: u32) -> Check
-    ensures { result ≡ numbered len index_address number }
+// Whether an index may stand there and has an entry of this number.
+#[tactic(auto, unfolding(crate::specs::Index::numbered))]
+pub(crate) fn numbered(index: Section, number: u32) -> Result<(), Refusal>
+    ensures { result ≡ numbered (length index.entry.bytes.now) index.entry.at number }
 {
-    match section::index_rule(len, index_address) {
-        Check::Fault(r) => Check::Fault(r),
-        Check::Fine => {
-            if (number as usize) < len / 8 {
-                Check::Fine
-            } else {
-                Check::Fault(Refusal::Truncated)
-            }
-        }
+    section::index_rule(index.bytes.len(), index.at)?;
+    if (number as usize) < index.bytes.len() / 8 {
+        Ok(())
+    } else {
+        Err(Refusal::Truncated)
     }
 }
 
 // The function of an entry that is there.
-pub(crate) fn function_of(index: &[u8], index_address: Addr, number: u32) -> FunctionRead
-    requires { (length index.now ≤ index_most) × (number < entries index.now) }
-    ensures { result ≡ function_in index.now index_address number }
+#[tactic(auto, using(section::proofs::Words::word_there), unfolding(crate::specs::Index::function_in, crate::specs::Index::function_of))]
+pub(crate) fn function_of(index: Section, number: u32) -> Result<Addr, Refusal>
+    requires { (length index.bytes.now ≤ index_most) × (number < entries index.bytes.now) }
+    ensures { result ≡ function_in index.entry.bytes.now index.entry.at number }
 {
     let at = Off(8 * number);
-    let w = section::word_or_zero(index, at);
+    let w = section::word_or_zero(index.bytes, at);
     if w < 0x8000_0000 {
-        FunctionRead::At(section::prel31(w, section::address_of(index_address, at)))
+        Ok(section::prel31(w, section::address_of(index.at, at)))
     } else {
-        FunctionRead::Refused(Refusal::Corrupt)
+        Err(Refusal::Corrupt)
     }
 }
 
 // The content of an entry that is there.
-#[tactic(auto, using(section::proofs::Words::word_there, crate::proofs::Ways::content_one, crate::proofs::Ways::content_table, crate::proofs::Ways::content_compact))]
-pub(crate) fn content_of(index: &[u8], index_address: Addr, number: u32) -> Content
-    requires { (length index.now ≤ index_most) × (number < entries index.now) }
-    ensures { result ≡ content_of (word index.now (8 * number + 4)) index_address (off (8 * number + 4)) }
+#[inline(always)]
+#[tactic(auto, using(section::proofs::Words::word_there), unfolding(crate::specs::Index::content_of))]
+pub(crate) fn content_of(index: Section, number: u32) -> Content
+    requires { (length index.bytes.now ≤ index_most) × (number < entries index.bytes.now) }
+    ensures { result ≡ content_of (word index.entry.bytes.now (8 * number + 4)) index.entry.at (off (8 * number + 4)) }
 {
     let at = Off(8 * number + 4);
-    let w = section::word_or_zero(index, at);
+    let w = section::word_or_zero(index.bytes, at);
     if w == 1 {
         return Content::CannotUnwind;
     }
     if w < 0x8000_0000 {
-        return Content::Table(section::prel31(w, section::address_of(index_address, at)));
+        return Content::Table(section::prel31(w, section::address_of(index.at, at)));
     }
     let personality = Personality::Compact((w / 0x100_0000 % 16) as u8);
-    let held = Held::Index;
     let span = Span {
-        held,
+        held: Held::Index,
         at,
         words: 1,
         skip: 1,

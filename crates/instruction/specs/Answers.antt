@@ -1,15 +1,14 @@
 -- The paper's number and values for each answer of this crate, as the C library gives them.
 use Rattle.std.specs.Prelude.{ℕ, List, [], ◌∷◌}
-use Rattle.section.specs.Answer.{Answer, given, refused}
-use Rattle.instruction.specs.declared.Byte.{Byte}
+use Rattle.std.specs.Option.{option_map_or}
+use Rattle.section.specs.Answer.{Answer, counted}
+use Rattle.instruction.specs.Bytes.{Byte}
+use Rattle.instruction.specs.Decode.{Decoded}
 use Rattle.instruction.specs.declared.Instruction.{Instruction}
-use Rattle.instruction.specs.declared.Decoded.{Decoded}
 
 -- whether a byte is there, and the byte
 abbrev pub byte_answer : Byte → Answer
-byte_answer (Byte.Is b) = given (1 ∷ b ∷ [])
-byte_answer Byte.End = given (0 ∷ 0 ∷ [])
-byte_answer (Byte.Refused r) = refused 2 r
+byte_answer x = counted 2 (λ o. option_map_or (λ b. 1 ∷ b ∷ []) o (0 ∷ 0 ∷ [])) x
 
 -- kind, a, b, next position
 abbrev pub instruction_row : Instruction → ℕ → List ℕ
@@ -26,6 +25,4 @@ instruction_row Instruction.Error next = 10 ∷ 0 ∷ 0 ∷ next ∷ []
 
 -- what was decoded at a position; at the end of the bytes the next position is that position
 abbrev pub decoded_answer : ℕ → Decoded → Answer
-decoded_answer at (Decoded.Step i next) = given (instruction_row i next)
-decoded_answer at Decoded.End = given (0 ∷ 0 ∷ 0 ∷ at ∷ [])
-decoded_answer at (Decoded.Refused r) = refused 4 r
+decoded_answer at d = counted 4 (λ o. option_map_or (λ s. instruction_row s.0 s.1) o (0 ∷ 0 ∷ 0 ∷ at ∷ [])) d

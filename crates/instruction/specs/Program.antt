@@ -1,14 +1,12 @@
 -- The instructions of an entry as one walk, through the first Finish or Refused or to the end. A run and an audit are functions of its trail.
-use Rattle.std.specs.Prelude.{ℕ, ◌+◌, ◌≤◌, List, Bool, true, false, length, nat_le}
+use Rattle.std.specs.Prelude.{ℕ, ◌+◌, ◌≤◌, List, Bool, true, false, length, nat_le, Ok, Err, Some, None}
+use Rattle.std.specs.Result.{result_and}
 use Rattle.section.specs.Pick.{pick}
-use Rattle.section.specs.Check.{and_then, need}
+use Rattle.section.specs.Check.{Check, fine, need}
 use Rattle.section.specs.Walk.{Look, done, bad, last, item, Trail, trail_of, checked, Clean}
 use Rattle.section.specs.declared.Refusal.{Refusal}
-use Rattle.section.specs.declared.Check.{Check}
-use Rattle.section.specs.declared.Check.TheVariants.{Fine, Fault}
-use Rattle.instruction.specs.Decode.{decode_of}
+use Rattle.instruction.specs.Decode.{Decoded, decode_of}
 use Rattle.instruction.specs.declared.Instruction.{Instruction}
-use Rattle.instruction.specs.declared.Decoded.{Decoded}
 
 -- Finish and Refused end the walk
 abbrev pub ends_of : Instruction → Bool
@@ -24,9 +22,9 @@ ends_of Instruction.Unimplemented = false
 ends_of Instruction.Error = false
 
 abbrev pub look_of : Decoded → Look ℕ Instruction
-look_of (Decoded.Step i m) = pick (ends_of i) (last i) (item i m)
-look_of Decoded.End = done
-look_of (Decoded.Refused r) = bad r
+look_of (Ok (Some s)) = pick (ends_of s.0) (last s.0) (item s.0 s.1)
+look_of (Ok None) = done
+look_of (Err r) = bad r
 
 abbrev pub instruction_at : List ℕ → ℕ → Look ℕ Instruction
 instruction_at w at = look_of (decode_of w at)
@@ -36,20 +34,20 @@ program_of w at = trail_of (instruction_at w) (length w) at
 
 -- what an audit has against an instruction
 abbrev pub fault_of : Instruction → Check
-fault_of (Instruction.DataPop n) = Fine
-fault_of (Instruction.DataPush n) = Fine
-fault_of (Instruction.RegPop n) = Fine
-fault_of (Instruction.RegToSp n) = Fine
+fault_of (Instruction.DataPop n) = fine
+fault_of (Instruction.DataPush n) = fine
+fault_of (Instruction.RegPop n) = fine
+fault_of (Instruction.RegToSp n) = fine
 fault_of (Instruction.VfpPop start count) = need (nat_le (start + count) 32) Refusal.Regs
-fault_of Instruction.Finish = Fine
-fault_of Instruction.Refused = Fine
-fault_of Instruction.Reserved = Fault Refusal.Reserved
-fault_of Instruction.Unimplemented = Fault Refusal.Unsupported
-fault_of Instruction.Error = Fault Refusal.Malformed
+fault_of Instruction.Finish = fine
+fault_of Instruction.Refused = fine
+fault_of Instruction.Reserved = Err Refusal.Reserved
+fault_of Instruction.Unimplemented = Err Refusal.Unsupported
+fault_of Instruction.Error = Err Refusal.Malformed
 
 -- a skip over 2 is 1; then the first fault
 unfoldable pub audit_instructions_of : List ℕ → ℕ → Check
-audit_instructions_of w skip = and_then (need (nat_le skip 2) Refusal.Section) (checked fault_of (program_of w skip))
+audit_instructions_of w skip = result_and (need (nat_le skip 2) Refusal.Section) (checked fault_of (program_of w skip))
 
 -- ---- without the walk: an instruction that can be executed
 pub data Executable : Instruction → Type 0 where
@@ -68,8 +66,8 @@ pub record CleanInstructions (w : List ℕ) (skip : ℕ) : Type 0 where
 
 -- how the audit of whole words from a skip of at most 2 ends: what has no line here can't happen
 pub data Audited : Check → Type 0 where
-  fine : Audited Fine
-  reserved : Audited (Fault Refusal.Reserved)
-  unsupported : Audited (Fault Refusal.Unsupported)
-  malformed : Audited (Fault Refusal.Malformed)
-  regs : Audited (Fault Refusal.Regs)
+  passed : Audited fine
+  reserved : Audited (Err Refusal.Reserved)
+  unsupported : Audited (Err Refusal.Unsupported)
+  malformed : Audited (Err Refusal.Malformed)
+  regs : Audited (Err Refusal.Regs)

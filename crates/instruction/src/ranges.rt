@@ -1,45 +1,41 @@
-// The instructions, by ranges of the first byte. `next` is the position after that byte.
+// The instructions, by ranges of the first byte.
 ghost use Rattle.std.specs.Prelude.{◌≡◌, ◌≤◌};
-ghost use Rattle.instruction.specs.Bytes.{WithinWords};
 ghost use Rattle.instruction.specs.Decode.{error_at, pop_mask, to_sp, pop_run, low_mask, vfp_pop, single_of, opcode_of};
 
-use crate::{Byte, Decoded, Instruction};
+use crate::Instruction;
+use crate::place::Place;
+use section::Refusal;
 
 // After an Error the walk is at its end.
-pub(crate) fn error_at(words: &[u8], next: u32) -> Decoded
-    requires { WithinWords words.now next }
-    ensures { result ≡ error_at words.now }
+pub(crate) fn error_at(at: Place) -> Result<(Instruction, u32), Refusal>
+    ensures { result ≡ error_at at.entry.words.now }
 {
-    Decoded::Step(Instruction::Error, words.len() as u32)
+    Ok((Instruction::Error, at.words.len() as u32))
 }
 
 // 80-8F
-#[tactic(auto, using(crate::proofs::Laws::mask_refused, crate::proofs::Laws::mask_pop), unfolding(crate::specs::Decode::pop_mask))]
-fn pop_mask(words: &[u8], next: u32, b: u8) -> Decoded
-    requires { WithinWords words.now next }
-    ensures { result ≡ pop_mask words.now next b }
+#[tactic(auto, unfolding(crate::specs::Decode::pop_mask))]
+fn pop_mask(at: Place, b: u8) -> Result<(Instruction, u32), Refusal>
+    ensures { result ≡ pop_mask at.entry.words.now at.entry.next b }
 {
-    match crate::byte_at(words, next) {
-        Byte::Is(c) => {
-            let m = (b % 16) as u32 * 256 + c as u32;
-            if m == 0 {
-                return Decoded::Step(Instruction::Refused, next + 1);
-            }
-            Decoded::Step(Instruction::RegPop(m * 16), next + 1)
-        }
-        Byte::End => error_at(words, next),
-        Byte::Refused(r) => Decoded::Refused(r),
+    let Some(c) = crate::byte_at(at.words, at.next)? else {
+        return error_at(at);
+    };
+    let m = (b % 16) as u32 * 256 + c as u32;
+    if m == 0 {
+        return Ok((Instruction::Refused, at.next + 1));
     }
+    Ok((Instruction::RegPop(m * 16), at.next + 1))
 }
 
 // 90-9F
-fn to_sp(next: u32, b: u8) -> Decoded
+#[tactic(auto, unfolding(crate::specs::Decode::to_sp))]
+fn to_sp(next: u32, b: u8) -> Result<(Instruction, u32), Refusal>
     ensures { result ≡ to_sp next b }
 {
     match b {
-        0x9D => Decoded::Step(Instruction::Reserved, next),
-        0x9F => Decoded::Step(Instruction::Reserved, next),
-        _ => Decoded::Step(Instruction::RegToSp((b % 16) as u32), next),
+        0x9D | 0x9F => Ok((Instruction::Reserved, next)),
+        _ => Ok((Instruction::RegToSp((b % 16) as u32), next)),
     }
 }
 
@@ -49,78 +45,67 @@ const RUNS: [u32; 16] = [
 ];
 
 // A0-AF
-fn pop_run(next: u32, b: u8) -> Decoded
+fn pop_run(next: u32, b: u8) -> Result<(Instruction, u32), Refusal>
     ensures { result ≡ pop_run next b }
 {
     let i = (b % 16) as usize;
-    Decoded::Step(Instruction::RegPop(RUNS[i]), next)
+    Ok((Instruction::RegPop(RUNS[i]), next))
 }
 
 // B1
-fn low_mask(words: &[u8], next: u32) -> Decoded
-    requires { WithinWords words.now next }
-    ensures { result ≡ low_mask words.now next }
+#[tactic(auto, unfolding(crate::specs::Decode::low_mask))]
+fn low_mask(at: Place) -> Result<(Instruction, u32), Refusal>
+    ensures { result ≡ low_mask at.entry.words.now at.entry.next }
 {
-    match crate::byte_at(words, next) {
-        Byte::Is(c) => {
-            if c == 0 {
-                return Decoded::Step(Instruction::Reserved, next + 1);
-            }
-            if 0x10 <= c {
-                return Decoded::Step(Instruction::Reserved, next + 1);
-            }
-            Decoded::Step(Instruction::RegPop(c as u32), next + 1)
-        }
-        Byte::End => error_at(words, next),
-        Byte::Refused(r) => Decoded::Refused(r),
+    let Some(c) = crate::byte_at(at.words, at.next)? else {
+        return error_at(at);
+    };
+    if c == 0 || 0x10 <= c {
+        return Ok((Instruction::Reserved, at.next + 1));
     }
+    Ok((Instruction::RegPop(c as u32), at.next + 1))
 }
 
 // C8 with 16 more, C9
-fn vfp_pop(words: &[u8], next: u32, more: u8) -> Decoded
-    requires within_words { WithinWords words.now next }
-    requires more_bound { more ≤ 16 }
-    ensures { result ≡ vfp_pop words.now next more }
+#[tactic(auto, unfolding(crate::specs::Decode::vfp_pop))]
+fn vfp_pop(at: Place, more: u8) -> Result<(Instruction, u32), Refusal>
+    requires { more ≤ 16 }
+    ensures { result ≡ vfp_pop at.entry.words.now at.entry.next more }
 {
-    match crate::byte_at(words, next) {
-        Byte::Is(c) => Decoded::Step(
-            Instruction::VfpPop {
-                start: (c / 16 + more) as u32,
-                count: (c % 16 + 1) as u32,
-            },
-            next + 1,
-        ),
-        Byte::End => error_at(words, next),
-        Byte::Refused(r) => Decoded::Refused(r),
-    }
+    let Some(c) = crate::byte_at(at.words, at.next)? else {
+        return error_at(at);
+    };
+    let start = (c / 16 + more) as u32;
+    let count = (c % 16 + 1) as u32;
+    Ok((Instruction::VfpPop { start, count }, at.next + 1))
 }
 
 // B0-FF
-fn single(words: &[u8], next: u32, b: u8) -> Decoded
-    requires { WithinWords words.now next }
-    ensures { result ≡ single_of words.now next b }
+#[tactic(auto, unfolding(crate::specs::Decode::single_of))]
+fn single(at: Place, b: u8) -> Result<(Instruction, u32), Refusal>
+    ensures { result ≡ single_of at.entry.words.now at.entry.next b }
 {
     match b {
-        0xB0 => Decoded::Step(Instruction::Finish, next),
-        0xB1 => low_mask(words, next),
-        0xB2 => crate::uleb::pop_long(words, next),
-        0xC8 => vfp_pop(words, next, 16),
-        0xC9 => vfp_pop(words, next, 0),
-        _ => Decoded::Step(Instruction::Unimplemented, next),
+        0xB0 => Ok((Instruction::Finish, at.next)),
+        0xB1 => low_mask(at),
+        0xB2 => crate::uleb::pop_long(at),
+        0xC8 => vfp_pop(at, 16),
+        0xC9 => vfp_pop(at, 0),
+        _ => Ok((Instruction::Unimplemented, at.next)),
     }
 }
 
 // The instruction of a first byte.
-pub(super) fn opcode(words: &[u8], next: u32, b: u8) -> Decoded
-    requires { WithinWords words.now next }
-    ensures { result ≡ opcode_of words.now next b }
+#[tactic(auto, unfolding(crate::specs::Decode::opcode_of))]
+pub(super) fn opcode(at: Place, b: u8) -> Result<(Instruction, u32), Refusal>
+    ensures { result ≡ opcode_of at.entry.words.now at.entry.next b }
 {
     match b / 16 {
-        0 | 1 | 2 | 3 => Decoded::Step(Instruction::DataPop((b % 64) as u32 * 4 + 4), next),
-        4 | 5 | 6 | 7 => Decoded::Step(Instruction::DataPush((b % 64) as u32 * 4 + 4), next),
-        8 => pop_mask(words, next, b),
-        9 => to_sp(next, b),
-        0xA => pop_run(next, b),
-        _ => single(words, next, b),
+        0..=3 => Ok((Instruction::DataPop((b % 64) as u32 * 4 + 4), at.next)),
+        4..=7 => Ok((Instruction::DataPush((b % 64) as u32 * 4 + 4), at.next)),
+        8 => pop_mask(at, b),
+        9 => to_sp(at.next, b),
+        0xA => pop_run(at.next, b),
+        _ => single(at, b),
     }
 }

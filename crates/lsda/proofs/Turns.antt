@@ -1,114 +1,113 @@
 -- The walk over the call sites: each site that is read leads on, below the end of the data, so that its trail goes a turn at a time. Assumes nothing.
 use Prim.Native.Nat.{ℕ, zero, suc, ◌+◌, ◌<◌, ◌≤◌}
-use mathlib.Core.Path.{◌≡◌, refl, ap}
+use mathlib.Core.Path.{◌≡◌, refl, ap, ◌∙◌}
 use mathlib.Core.List.{List}
 use mathlib.Core.Bool.{true, false}
 use native.Mathlib.Omega.{arith}
 use lib.ListN.{length}
-use lib.Dec.{ltb, leb}
-use borrow.Author.Tests.{le-leb, lt-leb, lt-ltb, le-ltb, leb-false}
+use lib.Dec.{ltb}
+use borrow.Author.Tests.{lt-ltb, le-ltb}
 use Rattle.section.specs.Rule.{table_most}
-use Rattle.section.specs.Sum.{plus_of, on_sum}
+use Rattle.std.proofs.Common.{Ok, Err, Some, None, Option}
+use Rattle.std.specs.Option.{ok_or}
+use Rattle.section.specs.Check.{Answered, and_then}
+use Rattle.section.specs.Sum.{plus_of}
 use Rattle.section.specs.Walk.{Look, Trail, Upward}
 use Rattle.section.specs.declared.Addr.{Addr}
 use Rattle.section.specs.declared.Off.{Off}
 use Rattle.section.specs.declared.Refusal.{Refusal}
-use Rattle.section.specs.declared.Summed.{Summed}
-use Rattle.section.proofs.Picks.{pick_each, pick_both}
+use Rattle.section.proofs.Picks.{pick_both}
 use Rattle.section.proofs.Walks.{trail_item, trail_done, trail_bad}
 use Rattle.pointer.specs.Pointer.{pointer_of}
 use Rattle.pointer.specs.Reads.{ReadsOn, NoPointer}
-use Rattle.pointer.specs.declared.Read.{Read}
 use Rattle.pointer.proofs.Laws.{pointer_on}
-use Rattle.lsda.specs.Header.{on_read}
-use Rattle.lsda.specs.Site.{pair_at, on_pair, summed_of, fields_at, site_at, settled_of}
+use Rattle.pointer.specs.Number.{Read}
+use Rattle.pointer.proofs.Laws.{too_long, sized_is, sized_each}
+use Rattle.lsda.specs.Header.{reading}
+use Rattle.lsda.specs.Site.{pair_at, reading_pair, summed_of, SiteRead, fields_at, site_at, settled_of}
 use Rattle.lsda.specs.Sites.{look_of, site_look, sites_from, covers_of, find_in}
 use Rattle.lsda.specs.Reasons.{Faulty}
-use Rattle.lsda.specs.declared.fields.Pair.{Pair}
 use Rattle.lsda.specs.declared.Header.{Header}
 use Rattle.lsda.specs.declared.Site.{Site}
-use Rattle.lsda.specs.declared.SiteRead.{SiteRead}
-use Rattle.lsda.specs.declared.SiteFound.{SiteFound}
 
 -- what holds of each way on from a read holds of what is made of it
-pub on_read_lem : {X : Type 0} (P : X → Type 0) {Why : Refusal → Type 0} {at len : ℕ} (r : Read) (stop : Refusal → X) (go : ℕ → Off → X)
-    → ReadsOn Why at len r → ((x : Refusal) → Why x → P (stop x)) → ((v : ℕ) (p : Off) → at < p.0 → p.0 ≤ len → P (go v p)) → P (on_read r stop go)
-on_read_lem P r stop go (ReadsOn.value {v = v} {next = p} f a b) w g = g v p a b
-on_read_lem P r stop go (ReadsOn.refused {r = x} y) w g = w x y
+pub reading_lem : {X : Type 0} (P : Answered X → Type 0) {Why : Refusal → Type 0} {at len : ℕ} (r : Read) (go : ℕ → Off → Answered X)
+    → ReadsOn Why at len r → ((x : Refusal) → Why x → P (Err x)) → ((v : ℕ) (p : Off) → at < p.0 → p.0 ≤ len → P (go v p)) → P (reading r go)
+reading_lem P r go (ReadsOn.value {v = v} {next = p} f a b) w g = g v p a b
+reading_lem P r go (ReadsOn.refused {r = x} y) w g = w x y
 
 module _ (s : List ℕ) where
   -- ---- a site leads on, or is refused for a reason
-  data PairOn (at : ℕ) : Pair → Type 0 where
-    two : {v w : ℕ} {p : Off} → at < p.0 → p.0 ≤ length s → PairOn at (Pair.Of v w p)
-    refused : {r : Refusal} → NoPointer (length s) r → PairOn at (Pair.Refused r)
+  data PairOn (at : ℕ) : Answered (ℕ × ℕ × Off) → Type 0 where
+    two : {v w : ℕ} {p : Off} → at < p.0 → p.0 ≤ length s → PairOn at (Ok (v, w, p))
+    refused : {r : Refusal} → NoPointer (length s) r → PairOn at (Err r)
 
   pair_on : (e f at : ℕ) → PairOn at (pair_at s e f at)
   unfolding pair_at
   pair_on e f at =
-      on_read_lem (PairOn at) (pointer_of s at e) _ _ (pointer_on s at e) (λ x w. PairOn.refused w)
-      (λ v p a b. on_read_lem (PairOn at) (pointer_of s p.0 f) _ _ (pointer_on s p.0 f) (λ x w. PairOn.refused w)
+      reading_lem (PairOn at) (pointer_of s at e) _ (pointer_on s at e) (λ x w. PairOn.refused w)
+      (λ v p a b. reading_lem (PairOn at) (pointer_of s p.0 f) _ (pointer_on s p.0 f) (λ x w. PairOn.refused w)
       (λ w q c d. PairOn.two (omega arith) d))
 
   pub data SiteOn (at : ℕ) : SiteRead → Type 0 where
-    site : {x : Site} {next : Off} → at < next.0 → at < length s → SiteOn at (SiteRead.Is x next)
-    done : SiteOn at SiteRead.Done
-    refused : {r : Refusal} → Faulty (length s) r → SiteOn at (SiteRead.Refused r)
+    site : {x : Site} {next : Off} → at < next.0 → at < length s → SiteOn at (Ok (Some (x, next)))
+    done : SiteOn at (Ok None)
+    refused : {r : Refusal} → Faulty (length s) r → SiteOn at (Err r)
 
-  on_pair_lem : {at : ℕ} (from : ℕ) (r : Pair) (go : ℕ → ℕ → Off → SiteRead)
-      → PairOn from r → ((v w : ℕ) (p : Off) → from < p.0 → p.0 ≤ length s → SiteOn at (go v w p)) → SiteOn at (on_pair r SiteRead.Refused go)
-  on_pair_lem from r go (PairOn.two {v = v} {w = w} {p = p} a b) g = g v w p a b
-  on_pair_lem from r go (PairOn.refused y) g = SiteOn.refused (Faulty.unread y)
+  pair_lem : {at : ℕ} (from : ℕ) (r : Answered (ℕ × ℕ × Off)) (go : ℕ → ℕ → Off → SiteRead)
+      → PairOn from r → ((v w : ℕ) (p : Off) → from < p.0 → p.0 ≤ length s → SiteOn at (go v w p)) → SiteOn at (reading_pair r go)
+  pair_lem from r go (PairOn.two {v = v} {w = w} {p = p} a b) g = g v w p a b
+  pair_lem from r go (PairOn.refused y) g = SiteOn.refused (Faulty.unread y)
 
-  on_sum_lem : {at : ℕ} (r : Summed) (go : Addr → SiteRead) → ((a : Addr) → SiteOn at (go a)) → SiteOn at (on_sum r go (SiteRead.Refused Refusal.Sum))
-  on_sum_lem (Summed.At a) go g = g a
-  on_sum_lem Summed.Over go g = SiteOn.refused Faulty.sum
+  sum_lem : {at : ℕ} {X : Type 0} (o : Option X) (go : X → Answered Site) (on : Site → SiteRead) → ((a : X) → SiteOn at (and_then (go a) on)) → SiteOn at (and_then (and_then (ok_or o Refusal.Sum) go) on)
+  sum_lem (Some a) go on g = g a
+  sum_lem None go on g = SiteOn.refused Faulty.sum
 
   fields_on : (base : Addr) (e at : ℕ) → SiteOn at (fields_at s base e at)
   unfolding fields_at summed_of
   fields_on base e at =
-      on_pair_lem at (pair_at s e e at) _ (pair_on e e at)
-      (λ start size p a b. on_pair_lem p.0 (pair_at s e 0x01 p.0) _ (pair_on e 0x01 p.0)
-      (λ pad action next c d. on_sum_lem (plus_of base start) _ (λ from. on_sum_lem (plus_of from size) _ (λ to. SiteOn.site (omega arith) (omega arith)))))
+      pair_lem at (pair_at s e e at) _ (pair_on e e at)
+      (λ start size p a b. pair_lem p.0 (pair_at s e 0x01 p.0) _ (pair_on e 0x01 p.0)
+      (λ pad action next c d. sum_lem (plus_of base start) _ _ (λ from. sum_lem (plus_of from size) _ _ (λ to. SiteOn.site (omega arith) (omega arith)))))
 
   pub site_on : (h : Header) (at : ℕ) → SiteOn at (site_at s h at)
   unfolding site_at
   site_on h at =
-      pick_each (SiteOn at) (leb (length s) table_most) _ _
-      (λ _. pick_both (SiteOn at) (ltb at h.end) _ _ (fields_on h.base h.encoding at) SiteOn.done)
-      (λ t. SiteOn.refused (Faulty.unread (NoPointer.long (leb-false (length s) table_most t))))
+      sized_each s (SiteOn at) (λ l. SiteOn.refused (Faulty.unread (NoPointer.long l))) _
+      (pick_both (SiteOn at) (ltb at h.end) _ _ (fields_on h.base h.encoding at) SiteOn.done)
 
   -- ---- one law for each way to a site
   module _ (h : Header) (at : ℕ) where
-    pub site_long : table_most < length s → site_at s h at ≡ SiteRead.Refused Refusal.Section
+    pub site_long : table_most < length s → site_at s h at ≡ Err Refusal.Section
     unfolding site_at
-    site_long l = rw (lt-leb _ _ l)
+    site_long l = too_long s _ l
 
-    pub site_past : length s ≤ table_most → h.end ≤ at → site_at s h at ≡ SiteRead.Done
+    pub site_past : length s ≤ table_most → h.end ≤ at → site_at s h at ≡ Ok None
     unfolding site_at
-    site_past l e = rw (le-leb _ _ l, le-ltb _ _ e)
+    site_past l e = sized_is s _ l ∙ rw (le-ltb _ _ e)
 
     pub site_before : length s ≤ table_most → at < h.end → site_at s h at ≡ fields_at s h.base h.encoding at
     unfolding site_at
-    site_before l e = rw (le-leb _ _ l, lt-ltb _ _ e)
+    site_before l e = sized_is s _ l ∙ rw (lt-ltb _ _ e)
 
   module _ (h : Header) where
     pub sites_upward : Upward (site_look s h) (length s)
     sites_upward p m a e = go (site_at s h p) (site_on h p) e
       where
         go : (x : SiteRead) → SiteOn p x → look_of x ≡ Look.item a m → (p < m) × (p < length s)
-        go (SiteRead.Is x next) (SiteOn.site u v) e = let k : next.0 ≡ m = cc in (omega arith, v)
-        go SiteRead.Done o e = let z : ◌≡◌ {A = ℕ} 0 1 = cc in absurd (omega arith)
-        go (SiteRead.Refused r) o e = let z : ◌≡◌ {A = ℕ} 0 1 = cc in absurd (omega arith)
+        go (Ok (Some (x, next))) (SiteOn.site u v) e = let k : next.0 ≡ m = cc in (omega arith, v)
+        go (Ok None) o e = let z : ◌≡◌ {A = ℕ} 0 1 = cc in absurd (omega arith)
+        go (Err r) o e = let z : ◌≡◌ {A = ℕ} 0 1 = cc in absurd (omega arith)
 
     -- ---- the trail from a position, by what is read there
     module _ (at : ℕ) where
-      pub sites_done : site_at s h at ≡ SiteRead.Done → sites_from s h at ≡ Trail.end
+      pub sites_done : site_at s h at ≡ Ok None → sites_from s h at ≡ Trail.end
       sites_done e = trail_done (site_look s h) (length s) at (ap look_of e)
 
-      pub sites_refused : (r : Refusal) → site_at s h at ≡ SiteRead.Refused r → sites_from s h at ≡ Trail.stop r
+      pub sites_refused : (r : Refusal) → site_at s h at ≡ Err r → sites_from s h at ≡ Trail.stop r
       sites_refused r e = trail_bad (site_look s h) (length s) at r (ap look_of e)
 
-      module _ (x : Site) (next : Off) (e : site_at s h at ≡ SiteRead.Is x next) where
+      module _ (x : Site) (next : Off) (e : site_at s h at ≡ Ok (Some (x, next))) where
         pub sites_more : sites_from s h at ≡ Trail.more x (sites_from s h next.0)
         sites_more = trail_item (site_look s h) (length s) sites_upward at x next.0 (ap look_of e)
 
@@ -131,11 +130,11 @@ module _ (s : List ℕ) where
 
 -- ---- the search in a trail, a turn at a time
 module _ (base c : Addr) where
-  pub find_end : find_in base c Trail.end ≡ SiteFound.Refused Refusal.NoSite
+  pub find_end : find_in base c Trail.end ≡ Err Refusal.NoSite
   unfolding find_in
   find_end = refl
 
-  pub find_stop : (r : Refusal) → find_in base c (Trail.stop r) ≡ SiteFound.Refused r
+  pub find_stop : (r : Refusal) → find_in base c (Trail.stop r) ≡ Err r
   unfolding find_in
   find_stop r = refl
 

@@ -1,42 +1,41 @@
 -- The paper's number and values of each answer.
-use Rattle.std.specs.Prelude.{ℕ, List, [], ◌∷◌}
-use Rattle.section.specs.Answer.{Answer, given, refused}
-use Rattle.lsda.specs.declared.HeaderRead.{HeaderRead}
-use Rattle.lsda.specs.declared.SiteRead.{SiteRead}
-use Rattle.lsda.specs.declared.Pad.{Pad}
-use Rattle.lsda.specs.declared.Action.{Action}
+use Rattle.std.specs.Prelude.{ℕ, List, [], ◌∷◌, Option, Some, None}
+use Rattle.std.specs.Option.{option_map_or}
+use Rattle.section.specs.Answer.{Answer, counted}
+use Rattle.section.specs.Check.{Answered}
+use Rattle.section.specs.declared.Addr.{Addr}
+use Rattle.section.specs.declared.Off.{Off}
+use Rattle.lsda.specs.Site.{SiteRead}
+use Rattle.lsda.specs.declared.Header.{Header}
+use Rattle.lsda.specs.declared.Site.{Site}
 use Rattle.lsda.specs.declared.CallSite.{CallSite}
-use Rattle.lsda.specs.declared.SiteFound.{SiteFound}
 
 -- base, encoding, the table's start and end
-abbrev pub header_answer : HeaderRead → Answer
-header_answer (HeaderRead.Is h) = given (h.base.0 ∷ h.encoding ∷ h.start.0 ∷ h.end ∷ [])
-header_answer (HeaderRead.Refused r) = refused 4 r
+abbrev pub header_answer : Answered Header → Answer
+header_answer x = counted 4 (λ h. h.base.0 ∷ h.encoding ∷ h.start.0 ∷ h.end ∷ []) x
 
 -- 1 for a site, 0 for the table's end; start, end, pad and action as they are written, next position
+abbrev pub site_read_row : Option (Site × Off) → List ℕ
+site_read_row (Some x) = 1 ∷ x.0.start.0 ∷ x.0.end.0 ∷ x.0.pad ∷ x.0.action ∷ x.1.0 ∷ []
+site_read_row None = 0 ∷ 0 ∷ 0 ∷ 0 ∷ 0 ∷ 0 ∷ []
+
 abbrev pub site_read_answer : SiteRead → Answer
-site_read_answer (SiteRead.Is x next) = given (1 ∷ x.start.0 ∷ x.end.0 ∷ x.pad ∷ x.action ∷ next.0 ∷ [])
-site_read_answer SiteRead.Done = given (0 ∷ 0 ∷ 0 ∷ 0 ∷ 0 ∷ 0 ∷ [])
-site_read_answer (SiteRead.Refused r) = refused 6 r
+site_read_answer x = counted 6 site_read_row x
 
 -- no pad is 0
-abbrev pub pad_number : Pad → ℕ
-pad_number Pad.None = 0
-pad_number (Pad.At a) = a.0
+abbrev pub pad_number : Option Addr → ℕ
+pad_number pad = option_map_or (λ a. a.0) pad 0
 
 -- whether there is an action, and which
-abbrev pub has_action : Action → ℕ
-has_action Action.None = 0
-has_action (Action.Record n) = 1
+abbrev pub has_action : Option ℕ → ℕ
+has_action action = option_map_or (λ _. 1) action 0
 
-abbrev pub action_number : Action → ℕ
-action_number Action.None = 0
-action_number (Action.Record n) = n
+abbrev pub action_number : Option ℕ → ℕ
+action_number action = option_map_or (λ n. n) action 0
 
 -- start, end, pad, has action, action
 abbrev pub site_row : CallSite → List ℕ
 site_row w = w.start.0 ∷ w.end.0 ∷ pad_number w.pad ∷ has_action w.action ∷ action_number w.action ∷ []
 
-abbrev pub site_answer : SiteFound → Answer
-site_answer (SiteFound.Is w) = given (site_row w)
-site_answer (SiteFound.Refused r) = refused 5 r
+abbrev pub site_answer : Answered CallSite → Answer
+site_answer x = counted 5 site_row x

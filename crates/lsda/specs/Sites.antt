@@ -1,23 +1,21 @@
 -- The call sites as one walk; the search for a counter's, and the audit of all, are functions of its trail.
-use Rattle.std.specs.Prelude.{ℕ, ◌≤◌, ◌<◌, ◌≡◌, List, Bool, false, length, nat_lt, nat_le}
+use Rattle.std.specs.Prelude.{ℕ, ◌≤◌, ◌<◌, ◌≡◌, List, Bool, false, length, nat_lt, nat_le, Ok, Err, Some, None}
+use Rattle.section.specs.Check.{Check, and_then}
+use Rattle.section.specs.Check as check
 use Rattle.section.specs.Pick.{pick}
 use Rattle.section.specs.Walk.{Look, done, bad, item, Trail, trail_of, checked, Clean}
 use Rattle.section.specs.declared.Addr.{Addr}
 use Rattle.section.specs.declared.Refusal.{Refusal}
-use Rattle.section.specs.declared.Check.{Check}
 use Rattle.lsda.specs.Header.{header_of}
-use Rattle.lsda.specs.Site.{site_at, fits_of, settled_of, resolved, Fits}
+use Rattle.lsda.specs.Site.{SiteRead, site_at, fits_of, settled_of, resolved, Fits}
 use Rattle.lsda.specs.declared.Header.{Header}
-use Rattle.lsda.specs.declared.HeaderRead.{HeaderRead}
 use Rattle.lsda.specs.declared.Site.{Site}
-use Rattle.lsda.specs.declared.SiteRead.{SiteRead}
 use Rattle.lsda.specs.declared.CallSite.{CallSite}
-use Rattle.lsda.specs.declared.SiteFound.{SiteFound}
 
 abbrev pub look_of : SiteRead → Look ℕ Site
-look_of (SiteRead.Is x next) = item x next.0
-look_of SiteRead.Done = done
-look_of (SiteRead.Refused r) = bad r
+look_of (Ok (Some x)) = item x.0 x.1.0
+look_of (Ok None) = done
+look_of (Err r) = bad r
 
 abbrev pub site_look : List ℕ → Header → ℕ → Look ℕ Site
 site_look s h at = look_of (site_at s h at)
@@ -26,39 +24,35 @@ site_look s h at = look_of (site_at s h at)
 abbrev pub sites_from : List ℕ → Header → ℕ → Trail Site
 sites_from s h at = trail_of (site_look s h) (length s) at
 
-abbrev pub on_header : {X : Type 0} → HeaderRead → (Refusal → X) → (Header → X) → X
-on_header (HeaderRead.Is h) stop go = go h
-on_header (HeaderRead.Refused r) stop go = stop r
-
 -- ---- a counter's call site
 -- a site covers from its start to below its end
 unfoldable pub covers_of : Addr → Site → Bool
 covers_of c x = pick (nat_le x.start.0 c.0) (nat_lt c.0 x.end.0) false
 
 -- the first that covers is the answer, whatever stands after it; 11 where none does
-unfoldable pub find_in : Addr → Addr → Trail Site → SiteFound
-find_in base c Trail.end = SiteFound.Refused Refusal.NoSite
-find_in base c (Trail.stop r) = SiteFound.Refused r
+unfoldable pub find_in : Addr → Addr → Trail Site → check.Answered CallSite
+find_in base c Trail.end = Err Refusal.NoSite
+find_in base c (Trail.stop r) = Err r
 find_in base c (Trail.more x t) = pick (covers_of c x) (settled_of base x) (find_in base c t)
 
-abbrev pub find_from : List ℕ → Header → Addr → ℕ → SiteFound
+abbrev pub find_from : List ℕ → Header → Addr → ℕ → check.Answered CallSite
 find_from s h c at = find_in h.base c (sites_from s h at)
 
-unfoldable pub call_site_of : List ℕ → Addr → Addr → SiteFound
-call_site_of s function c = on_header (header_of s function) SiteFound.Refused (λ h. find_from s h c h.start.0)
+unfoldable pub call_site_of : List ℕ → Addr → Addr → check.Answered CallSite
+call_site_of s function c = and_then (header_of s function) (λ h. find_from s h c h.start.0)
 
 -- ---- the audit: every site is read, and its pad and action fit
 abbrev pub audit_from : List ℕ → Header → ℕ → Check
 audit_from s h at = checked (fits_of h.base) (sites_from s h at)
 
 unfoldable pub audit_sites_of : List ℕ → Addr → Check
-audit_sites_of s function = on_header (header_of s function) Check.Fault (λ h. audit_from s h h.start.0)
+audit_sites_of s function = and_then (header_of s function) (λ h. audit_from s h h.start.0)
 
 -- ---- without the walk
 -- the header is read, and wherever the walk of its sites comes, a site is read whose pad and action fit
 pub record CleanSites (s : List ℕ) (function : Addr) : Type 0 where
   pub header : Header
-  pub read : header_of s function ≡ HeaderRead.Is header
+  pub read : header_of s function ≡ Ok header
   pub sites : Clean (Fits header.base) (site_look s header) header.start.0
 
 -- ---- the answer for a counter: the first site that covers it, or none does
@@ -74,12 +68,12 @@ pub data Nowhere {A : Type 0} (P : A → Type 0) : Trail A → Type 0 where
   ended : Nowhere P Trail.end
   past : {b : A} {t : Trail A} → (P b → ⊥) → Nowhere P t → Nowhere P (Trail.more b t)
 
-pub data Sited (base c : Addr) (t : Trail Site) : SiteFound → Type 0 where
-  covered : {x : Site} → First (Covers c) t x → Fits base x → Sited base c t (SiteFound.Is (resolved base x))
-  none : Nowhere (Covers c) t → Sited base c t (SiteFound.Refused Refusal.NoSite)
+pub data Sited (base c : Addr) (t : Trail Site) : check.Answered CallSite → Type 0 where
+  covered : {x : Site} → First (Covers c) t x → Fits base x → Sited base c t (Ok (resolved base x))
+  none : Nowhere (Covers c) t → Sited base c t (Err Refusal.NoSite)
 
 -- what an answer tells: a header was read, and y is the first of its sites that covers the counter, with a pad and an action that fit
 pub record Answered (s : List ℕ) (function c : Addr) (y : CallSite) : Type 0 where
   pub header : Header
-  pub read : header_of s function ≡ HeaderRead.Is header
-  pub site : Sited header.base c (sites_from s header header.start.0) (SiteFound.Is y)
+  pub read : header_of s function ≡ Ok header
+  pub site : Sited header.base c (sites_from s header header.start.0) (Ok y)

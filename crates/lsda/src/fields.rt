@@ -1,118 +1,86 @@
-// The fields of a header and of a call site.
+// The fields of a header and of a call site, each with the place after it.
 ghost use Rattle.std.specs.Prelude.{◌≡◌, ◌≤◌, length};
 ghost use Rattle.section.specs.Rule.{table_most};
 ghost use Rattle.lsda.specs.Header.{byte_at, base_at, types_at, table_at};
 ghost use Rattle.lsda.specs.Site.{pair_at};
 
-use crate::{Header, HeaderRead};
-use pointer::Read;
+use crate::Header;
 use section::{Addr, Off, Refusal};
 
-// A byte and the place after it.
+// Language data that is not too long.
 #[derive(Clone, Copy)]
-pub(crate) enum ByteRead {
-    Byte(u8, Off),
-    Refused(Refusal),
+pub(crate) struct Data<'a> {
+    pub bytes: &'a [u8],
+    ghost short: { length bytes.now ≤ table_most },
 }
 
-pub(crate) fn byte_at(data: &[u8], at: Off) -> ByteRead
-    requires { length «data».now ≤ table_most }
-    ensures { result ≡ byte_at «data».now at.0 }
+// A byte.
+#[tactic(auto, unfolding(crate::specs::Header::byte_at))]
+pub(crate) fn byte_at(data: Data, at: Off) -> Result<(u8, Off), Refusal>
+    ensures { result ≡ byte_at «data».entry.bytes.now at.0 }
 {
     let i = at.0 as usize;
-    if i < data.len() {
-        ByteRead::Byte(data[i], Off(at.0 + 1))
+    if i < data.bytes.len() {
+        Ok((data.bytes[i], Off(at.0 + 1)))
     } else {
-        ByteRead::Refused(Refusal::Truncated)
+        Err(Refusal::Truncated)
     }
-}
-
-// A base and the place after it.
-#[derive(Clone, Copy)]
-pub(crate) enum Based {
-    On(Addr, Off),
-    Refused(Refusal),
 }
 
 // The base encoding, and unless it is FF the base. The function's address stands for one that is left out.
-pub(crate) fn base_at(data: &[u8], function: Addr, at: Off) -> Based
-    requires { length «data».now ≤ table_most }
-    ensures { result ≡ base_at «data».now function at.0 }
+#[tactic(auto, unfolding(crate::specs::Header::base_at))]
+pub(crate) fn base_at(data: Data, function: Addr, at: Off) -> Result<(Addr, Off), Refusal>
+    ensures { result ≡ base_at «data».entry.bytes.now function at.0 }
 {
-    match byte_at(data, at) {
-        ByteRead::Refused(r) => Based::Refused(r),
-        ByteRead::Byte(encoding, p) => {
-            if encoding == 0xFF {
-                return Based::On(function, p);
-            }
-            match pointer::pointer(data, p, encoding) {
-                Read::Refused(r) => Based::Refused(r),
-                Read::Value(base, next) => Based::On(Addr(base), next),
-            }
-        }
+    let (encoding, p) = byte_at(data, at)?;
+    if encoding == 0xFF {
+        return Ok((function, p));
     }
+    let (base, next) = pointer::pointer(data.bytes, p, encoding)?;
+    Ok((Addr(base), next))
 }
 
 // The type encoding, which is not tested, and unless it is FF a ULEB. 0 stands for one that is left out.
-pub(crate) fn types_at(data: &[u8], at: Off) -> Read
-    requires { length «data».now ≤ table_most }
-    ensures { result ≡ types_at «data».now at.0 }
+#[tactic(auto, unfolding(crate::specs::Header::types_at))]
+pub(crate) fn types_at(data: Data, at: Off) -> Result<(u32, Off), Refusal>
+    ensures { result ≡ types_at «data».entry.bytes.now at.0 }
 {
-    match byte_at(data, at) {
-        ByteRead::Refused(r) => Read::Refused(r),
-        ByteRead::Byte(encoding, p) => {
-            if encoding == 0xFF {
-                Read::Value(0, p)
-            } else {
-                pointer::uleb(data, p)
-            }
-        }
+    let (encoding, p) = byte_at(data, at)?;
+    if encoding == 0xFF {
+        Ok((0, p))
+    } else {
+        pointer::uleb(data.bytes, p)
     }
 }
 
 // The call-site encoding and the table's length. Start plus length fits no offset, so it is wide.
-pub(crate) fn table_at(data: &[u8], base: Addr, at: Off) -> HeaderRead
-    requires { length «data».now ≤ table_most }
-    ensures { result ≡ table_at «data».now base at.0 }
+#[tactic(auto, unfolding(crate::specs::Header::table_at))]
+pub(crate) fn table_at(data: Data, base: Addr, at: Off) -> Result<Header, Refusal>
+    ensures { result ≡ table_at «data».entry.bytes.now base at.0 }
 {
-    match byte_at(data, at) {
-        ByteRead::Refused(r) => HeaderRead::Refused(r),
-        ByteRead::Byte(encoding, p) => match pointer::uleb(data, p) {
-            Read::Refused(r) => HeaderRead::Refused(r),
-            Read::Value(length, start) => {
-                let end = start.0 as u64 + length as u64;
-                HeaderRead::Is(Header {
-                    base,
-                    encoding,
-                    start,
-                    end,
-                })
-            }
-        },
-    }
+    let (encoding, p) = byte_at(data, at)?;
+    let (length, start) = pointer::uleb(data.bytes, p)?;
+    let end = start.0 as u64 + length as u64;
+    Ok(Header {
+        base,
+        encoding,
+        start,
+        end,
+    })
 }
 
-// Two values in a row and the place after them.
-#[derive(Clone, Copy)]
-pub(crate) enum Pair {
-    Of(u32, u32, Off),
-    Refused(Refusal),
-}
-
-fn pair_at(data: &[u8], first: u8, second: u8, at: Off) -> Pair
+// Two values in a row.
+#[tactic(auto, unfolding(crate::specs::Site::pair_at))]
+fn pair_at(data: &[u8], first: u8, second: u8, at: Off) -> Result<(u32, u32, Off), Refusal>
     ensures { result ≡ pair_at «data».now first second at.0 }
 {
-    match pointer::pointer(data, at, first) {
-        Read::Refused(r) => Pair::Refused(r),
-        Read::Value(v, p) => match pointer::pointer(data, p, second) {
-            Read::Refused(r) => Pair::Refused(r),
-            Read::Value(w, next) => Pair::Of(v, w, next),
-        },
-    }
+    let (v, p) = pointer::pointer(data, at, first)?;
+    let (w, next) = pointer::pointer(data, p, second)?;
+    Ok((v, w, next))
 }
 
 // A site's start and length. ULEBs are what compilers write: with a constant encoding their reader is inlined here.
-pub(crate) fn range_at(data: &[u8], encoding: u8, at: Off) -> Pair
+pub(crate) fn range_at(data: &[u8], encoding: u8, at: Off) -> Result<(u32, u32, Off), Refusal>
     ensures { result ≡ pair_at «data».now encoding encoding at.0 }
 {
     match encoding {
@@ -122,7 +90,7 @@ pub(crate) fn range_at(data: &[u8], encoding: u8, at: Off) -> Pair
 }
 
 // Its pad, and its action, which always is a ULEB.
-pub(crate) fn landing_at(data: &[u8], encoding: u8, at: Off) -> Pair
+pub(crate) fn landing_at(data: &[u8], encoding: u8, at: Off) -> Result<(u32, u32, Off), Refusal>
     ensures { result ≡ pair_at «data».now encoding 0x01 at.0 }
 {
     match encoding {

@@ -1,135 +1,107 @@
 // A call site's sums, the first site that covers a counter, and the test of all.
 ghost use Rattle.std.specs.Prelude.{◌≡◌};
-ghost use Rattle.lsda.specs.Site.{summed_of, landed_of, settled_of};
+ghost use Rattle.lsda.specs.Site.{summed_of, settled_pad, settled_action, settled_of};
 ghost use Rattle.lsda.specs.Sites.{covers_of, find_from, audit_from};
 
-use crate::{Action, CallSite, Header, Pad, Site, SiteFound, SiteRead};
-use section::{Addr, Check, Off, Refusal, Summed};
+use crate::{CallSite, Header, Site};
+use section::{Addr, Off, Refusal};
 
 // The site of its fields: base plus start, and that plus the length.
+#[tactic(auto, unfolding(crate::specs::Site::summed_of))]
 pub(crate) fn summed(
     base: Addr,
     start: u32,
     length: u32,
     pad: u32,
     action: u32,
-    next: Off,
-) -> SiteRead
-    ensures { result ≡ summed_of base start length pad action next }
+) -> Result<Site, Refusal>
+    ensures { result ≡ summed_of base start length pad action }
 {
-    match section::plus(base, start) {
-        Summed::Over => SiteRead::Refused(Refusal::Sum),
-        Summed::At(from) => match section::plus(from, length) {
-            Summed::Over => SiteRead::Refused(Refusal::Sum),
-            Summed::At(to) => SiteRead::Is(
-                Site {
-                    start: from,
-                    end: to,
-                    pad,
-                    action,
-                },
-                next,
-            ),
-        },
-    }
+    let start = section::plus(base, start).ok_or(Refusal::Sum)?;
+    let end = section::plus(start, length).ok_or(Refusal::Sum)?;
+    Ok(Site {
+        start,
+        end,
+        pad,
+        action,
+    })
 }
 
-// The answer that a site is once its pad is known: the action's sum.
-fn landed(site: Site, pad: Pad) -> SiteFound
-    ensures { result ≡ landed_of site pad }
+// Where control lands: at base plus the field, or nowhere where that is 0.
+#[tactic(auto, using(crate::proofs::Sums::pad_none, crate::proofs::Sums::pad_at, crate::proofs::Sums::pad_over))]
+fn settled_pad(base: Addr, pad: u32) -> Result<Option<Addr>, Refusal>
+    ensures { result ≡ settled_pad base pad }
 {
-    let start = site.start;
-    let end = site.end;
-    if site.action == 0 {
-        let action = Action::None;
-        return SiteFound::Is(CallSite {
-            start,
-            end,
-            pad,
-            action,
-        });
+    if pad == 0 {
+        return Ok(None);
     }
-    if site.action < 0xFFFF_FFFF {
-        let action = Action::Record(site.action + 1);
-        return SiteFound::Is(CallSite {
-            start,
-            end,
-            pad,
-            action,
-        });
+    let at = section::plus(base, pad).ok_or(Refusal::Sum)?;
+    Ok(Some(at))
+}
+
+// The record that says what is done there: the field plus 1, or none where that is 0.
+#[tactic(auto, using(crate::proofs::Sums::action_none, crate::proofs::Sums::action_record, crate::proofs::Sums::action_over))]
+fn settled_action(action: u32) -> Result<Option<u32>, Refusal>
+    ensures { result ≡ settled_action action }
+{
+    if action == 0 {
+        return Ok(None);
     }
-    SiteFound::Refused(Refusal::Sum)
+    let record = action.checked_add(1).ok_or(Refusal::Sum)?;
+    Ok(Some(record))
 }
 
 // The answer that a site is: the pad's sum, then the action's.
-fn settled(base: Addr, site: Site) -> SiteFound
+#[tactic(auto, using(crate::proofs::Sums::settled_is))]
+fn settled(base: Addr, site: Site) -> Result<CallSite, Refusal>
     ensures { result ≡ settled_of base site }
 {
-    if site.pad == 0 {
-        return landed(site, Pad::None);
-    }
-    match section::plus(base, site.pad) {
-        Summed::At(a) => landed(site, Pad::At(a)),
-        Summed::Over => SiteFound::Refused(Refusal::Sum),
-    }
+    let pad = settled_pad(base, site.pad)?;
+    let action = settled_action(site.action)?;
+    Ok(CallSite {
+        start: site.start,
+        end: site.end,
+        pad,
+        action,
+    })
 }
 
 // Whether a site covers a counter: from its start to below its end.
+#[tactic(auto, unfolding(crate::specs::Sites::covers_of))]
 fn covers(site: Site, counter: Addr) -> bool
     ensures { result ≡ covers_of counter site }
 {
-    if site.start.0 <= counter.0 {
-        counter.0 < site.end.0
-    } else {
-        false
-    }
+    site.start.0 <= counter.0 && counter.0 < site.end.0
 }
 
 // The first site that covers a counter: what stands after it is not read.
-pub(crate) fn first_covering(data: &[u8], header: Header, counter: Addr) -> SiteFound
+#[tactic(auto, using(crate::proofs::Turns::sites_done, crate::proofs::Turns::sites_refused, crate::proofs::Turns::sites_more, crate::proofs::Turns::site_inside, crate::proofs::Turns::find_end, crate::proofs::Turns::find_stop, crate::proofs::Turns::find_here, crate::proofs::Turns::find_past))]
+pub(crate) fn first_covering(
+    data: &[u8],
+    header: Header,
+    counter: Addr,
+) -> Result<CallSite, Refusal>
     ensures { result ≡ find_from «data».now header counter header.start.0 }
 {
     let mut at = header.start;
-    loop {
-        match crate::site_at(data, header, at) {
-            SiteRead::Done => {
-                break SiteFound::Refused(Refusal::NoSite);
-            }
-            SiteRead::Refused(r) => {
-                break SiteFound::Refused(r);
-            }
-            SiteRead::Is(site, next) => {
-                if covers(site, counter) {
-                    break settled(header.base, site);
-                } else {
-                    at = next;
-                }
-            }
+    while let Some((site, next)) = crate::site_at(data, header, at)? {
+        if covers(site, counter) {
+            return settled(header.base, site);
         }
+        at = next;
     }
+    Err(Refusal::NoSite)
 }
 
 // The first fault of the sites.
-pub(crate) fn all_fit(data: &[u8], header: Header) -> Check
+#[tactic(auto, using(crate::proofs::Turns::sites_done, crate::proofs::Turns::sites_refused, crate::proofs::Turns::sites_more, crate::proofs::Turns::site_inside, section::proofs::Walks::checked_end, section::proofs::Walks::checked_stop, section::proofs::Walks::checked_more, crate::proofs::Sums::settled_fits, crate::proofs::Sums::settled_fault))]
+pub(crate) fn all_fit(data: &[u8], header: Header) -> Result<(), Refusal>
     ensures { result ≡ audit_from «data».now header header.start.0 }
 {
     let mut at = header.start;
-    loop {
-        match crate::site_at(data, header, at) {
-            SiteRead::Done => {
-                break Check::Fine;
-            }
-            SiteRead::Refused(r) => {
-                break Check::Fault(r);
-            }
-            SiteRead::Is(site, next) => match settled(header.base, site) {
-                SiteFound::Refused(r) => {
-                    break Check::Fault(r);
-                }
-                SiteFound::Is(_) => {
-                    at = next;
-                }
-            },
-        }
+    while let Some((site, next)) = crate::site_at(data, header, at)? {
+        settled(header.base, site)?;
+        at = next;
     }
+    Ok(())
 }

@@ -1,4 +1,5 @@
 -- Laws of the readers, for the crates above. Assumes nothing.
+use Rattle.std.proofs.Common.{Err}
 use Prim.Native.Nat.{ℕ, suc, ◌<◌, ◌≤◌}
 use mathlib.Core.Path.{◌≡◌, refl, ap}
 use mathlib.Core.Bool.{Bool}
@@ -7,23 +8,29 @@ use lib.Dec.{leb, eqb}
 use lib.ListN.{length}
 use borrow.Author.Tests.{le-leb, lt-leb, leb-false, ne_eqb}
 use Rattle.section.specs.declared.Refusal.{Refusal}
+use Rattle.section.specs.Check.{Answered}
 use Rattle.section.specs.Pick.{pick}
 use Rattle.section.specs.Rule.{table_most}
 use Rattle.section.proofs.Picks.{pick_each, pick_both}
-use Rattle.pointer.specs.declared.Read.{Read}
+use Rattle.pointer.specs.Number.{Read}
 use Rattle.pointer.specs.Pointer.{sized, uleb_of, sleb_of, pointer_of, formed, forms, form_in, form_of, Form}
 use Rattle.pointer.specs.Reads.{ReadsOn, NoLeb, NoPointer}
 use Rattle.pointer.proofs.Numbers.{leb_on, fixed_on, unsigned_on, signed_on}
 
 -- ---- data that is not too long, and data that is
-module _ (s : List ℕ) (r : Read) where
+module _ {A : Type 0} (s : List ℕ) (r : Answered A) where
   pub sized_is : length s ≤ table_most → sized s r ≡ r
   unfolding sized
-  sized_is h = ap (λ (t : Bool). pick t r (Read.Refused Refusal.Section)) (le-leb _ _ h)
+  sized_is h = ap (λ (t : Bool). pick t r (Err Refusal.Section)) (le-leb _ _ h)
 
-  pub too_long : table_most < length s → sized s r ≡ Read.Refused Refusal.Section
+  pub too_long : table_most < length s → sized s r ≡ Err Refusal.Section
   unfolding sized
-  too_long h = ap (λ (t : Bool). pick t r (Read.Refused Refusal.Section)) (lt-leb _ _ h)
+  too_long h = ap (λ (t : Bool). pick t r (Err Refusal.Section)) (lt-leb _ _ h)
+
+-- what holds of the answer, and of the refusal of data that is too long, holds of both
+pub sized_each : {A : Type 0} (s : List ℕ) (P : Answered A → Type 0) → (table_most < length s → P (Err Refusal.Section)) → (r : Answered A) → P r → P (sized s r)
+unfolding sized
+sized_each s P l r h = pick_each P (leb (length s) table_most) r (Err Refusal.Section) (λ _. h) (λ t. l (leb-false (length s) table_most t))
 
 -- ---- a pointer, once its encoding is known
 pub as_formed : (s : List ℕ) (at e : ℕ) (f : Form) → length s ≤ table_most → form_of e ≡ f → pointer_of s at e ≡ formed s at f
@@ -59,7 +66,7 @@ module _ (s : List ℕ) (at : ℕ) where
 
   sized_on : (Why : Refusal → Type 0) → (table_most < length s → Why Refusal.Section) → (r : Read) → ReadsOn Why at (length s) r → ReadsOn Why at (length s) (sized s r)
   unfolding sized
-  sized_on Why l r h = pick_each (ReadsOn Why at (length s)) (leb (length s) table_most) r _ (λ _. h) (λ t. ReadsOn.refused (l (leb-false _ _ t)))
+  sized_on Why l r h = sized_each s (ReadsOn Why at (length s)) (λ t. ReadsOn.refused (l t)) r h
 
   uleb_formed : Leb (formed s at Form.uleb)
   unfolding formed

@@ -1,14 +1,8 @@
 -- Laws of the numbers that are read, over the base and the number of digits. Assumes nothing.
-use Prim.Native.Nat.{ℕ, suc, ◌+◌, ◌-◌, ◌*◌, ◌/◌, ◌^◌, ◌<◌, ◌≤◌}
-use mathlib.Core.Path.{◌≡◌, refl, ap, ◌∙◌}
-use mathlib.Core.List.{List}
-use native.Mathlib.Nat.{pow-suc, mul-add}
-use native.Mathlib.Numerals.{add-one}
-use native.Mathlib.Omega.{arith}
-use lib.Dec.{lit<, leb, ltb}
-use lib.ListN.{length}
-use borrow.Author.Tests.{le-leb, lt-leb, lt-ltb, le-ltb, leb-true, ltb-true}
-use Rattle.section.specs.declared.Off.{Off}
+use Rattle.std.proofs.Common.{◌≡◌, ℕ, suc, ◌+◌, ◌-◌, ◌*◌, ◌/◌, ◌^◌, ◌<◌, ◌≤◌, List, length, refl, ap, subst, ◌∙◌, pow-suc, mul-add, add-one, arith, leb, ltb, le-leb, lt-ltb, le-ltb, leb-true, ltb-true, Ok, Err}
+use lib.Dec.{lit<}
+use borrow.Author.Tests.{lt-leb}
+use Rattle.section.specs.Check.{Answered, and_then}
 use Rattle.section.specs.declared.Refusal.{Refusal}
 use Rattle.section.specs.Digits.{bytes_at, digits, End}
 use Rattle.section.specs.Place.{off}
@@ -16,33 +10,31 @@ use Rattle.section.proofs.Digits.{below}
 use Rattle.section.proofs.Ends.{end_each}
 use Rattle.section.proofs.Picks.{pick_each, pick_both}
 use Rattle.pointer.specs.declared.number.Number.{Number}
-use Rattle.pointer.specs.declared.Read.{Read}
 use Rattle.pointer.specs.Number.{found, ended, leb_of, fixed_of, unsigned_of, signed_of, Bounded}
 use Rattle.pointer.specs.Reads.{ReadsOn, NoLeb}
 
 -- what a reader holds when it has read n digits in base b
 pub found_is : (b : ℕ) (s : List ℕ) (at n : ℕ) {v h p : ℕ}
-    → v ≡ digits b (bytes_at s at) n → h ≡ b ^ n / 2 → p ≡ at + n → Number.Found v h (off p) ≡ found b s at n
+    → v ≡ digits b (bytes_at s at) n → h ≡ b ^ n / 2 → p ≡ at + n → ◌≡◌ {A = Number} (record { value = v; half = h; next = off p }) (found b s at n)
 found_is b s at n v h p = rw (v, h, p)
 
 -- a number lies below twice its half, and the place after it further on and not past the end
-pub data NumberOn (at len : ℕ) : Number → Type 0 where
-  number : {v h : ℕ} {next : Off} → v < h + h → at < next.0 → next.0 ≤ len → NumberOn at len (Number.Found v h next)
-  refused : {r : Refusal} → NoLeb len r → NumberOn at len (Number.Refused r)
+pub data NumberOn (at len : ℕ) : Answered Number → Type 0 where
+  number : {n : Number} → Bounded n → at < n.next.0 → n.next.0 ≤ len → NumberOn at len (Ok n)
+  refused : {r : Refusal} → NoLeb len r → NumberOn at len (Err r)
 
-pub bounded : {at len : ℕ} (n : Number) → NumberOn at len n → Bounded n
-unfolding Bounded
-bounded n (NumberOn.number b p q) = b
-bounded n (NumberOn.refused r) = tt
+bounded_in : {at len : ℕ} (x : Answered Number) (n : Number) → NumberOn at len x → x ≡ Ok n → Bounded n
+bounded_in (Ok m) n (NumberOn.number b p q) e = let k : m ≡ n = cc in subst Bounded k b
+bounded_in (Err r) n (NumberOn.refused w) e = let z : ◌≡◌ {A = ℕ} 0 1 = cc in absurd (omega arith)
 
 halves : (x p q : ℕ) → x < p → p ≡ q + q → x < p / 2 + p / 2
 halves x p q h e = omega arith
 
 module _ (s : List ℕ) (at : ℕ) where
   -- a digit or more in an even base
-  found_on : (b c : ℕ) → 0 < b → b ≡ c + c → (k : ℕ) → at + suc k ≤ length s → NumberOn at (length s) (found b s at (suc k))
+  found_on : (b c : ℕ) → 0 < b → b ≡ c + c → (k : ℕ) → at + suc k ≤ length s → NumberOn at (length s) (Ok (found b s at (suc k)))
   found_on b c pos e k h =
-      NumberOn.number {next = off (at + suc k)}
+      NumberOn.number {n = found b s at (suc k)}
       (halves _ _ (b ^ k * c) (below b pos (bytes_at s at) (suc k)) (pow-suc b k ∙ ap (λ (x : ℕ). b ^ k * x) e ∙ mul-add (b ^ k) c c))
       (omega arith)
       h
@@ -58,70 +50,60 @@ module _ (s : List ℕ) (at : ℕ) where
   pub fixed_on : (k : ℕ) → NumberOn at (length s) (fixed_of s at (suc k))
   unfolding fixed_of
   fixed_on k =
-      pick_each (NumberOn at (length s)) (leb (at + suc k) (length s)) (found 0x100 s at (suc k)) (Number.Refused Refusal.Truncated)
+      pick_each (NumberOn at (length s)) (leb (at + suc k) (length s)) (Ok (found 0x100 s at (suc k))) (Err Refusal.Truncated)
       (λ t. found_on 0x100 0x80 (lit< tt) refl k (leb-true _ _ t))
       (λ _. NumberOn.refused NoLeb.truncated)
 
+  pub leb_bounded : (n : Number) → leb_of s at ≡ Ok n → Bounded n
+  leb_bounded n e = bounded_in _ n leb_on e
+
+  pub fixed_bounded : (k : ℕ) (n : Number) → fixed_of s at (suc k) ≡ Ok n → Bounded n
+  fixed_bounded k n e = bounded_in _ n (fixed_on k) e
+
 -- ---- one law for each way to an answer
 module _ (s : List ℕ) (at n : ℕ) where
-  pub fixed_in : at + n ≤ length s → fixed_of s at n ≡ found 0x100 s at n
+  pub fixed_in : at + n ≤ length s → fixed_of s at n ≡ Ok (found 0x100 s at n)
   unfolding fixed_of
   fixed_in h = simp (le-leb _ _ h)
 
-  pub fixed_out : length s < at + n → fixed_of s at n ≡ Number.Refused Refusal.Truncated
+  pub fixed_out : length s < at + n → fixed_of s at n ≡ Err Refusal.Truncated
   unfolding fixed_of
   fixed_out h = simp (lt-leb _ _ h)
 
-module _ (v h : ℕ) (next : Off) where
-  pub unsigned_in : v < 2 ^ 32 → unsigned_of (Number.Found v h next) ≡ Read.Value v next
-  unfolding unsigned_of
-  unsigned_in l = simp (lt-ltb _ _ l)
-
-  pub unsigned_over : 2 ^ 32 ≤ v → unsigned_of (Number.Found v h next) ≡ Read.Refused Refusal.Value
-  unfolding unsigned_of
-  unsigned_over l = simp (le-ltb _ _ l)
-
-  pub plus_in : v < h → v < 2 ^ 31 → signed_of (Number.Found v h next) ≡ Read.Value v next
+module _ (x : Number) where
+  pub plus_in : x.value < x.half → x.value < 2 ^ 31 → signed_of x ≡ Ok (x.value, x.next)
   unfolding signed_of
-  plus_in l m = simp (lt-ltb v h l, lt-ltb v (2 ^ 31) m)
+  plus_in l m = simp (lt-ltb x.value x.half l, lt-ltb x.value (2 ^ 31) m)
 
-  pub plus_over : v < h → 2 ^ 31 ≤ v → signed_of (Number.Found v h next) ≡ Read.Refused Refusal.Value
+  pub plus_over : x.value < x.half → 2 ^ 31 ≤ x.value → signed_of x ≡ Err Refusal.Value
   unfolding signed_of
-  plus_over l m = simp (lt-ltb v h l, le-ltb v (2 ^ 31) m)
+  plus_over l m = simp (lt-ltb x.value x.half l, le-ltb x.value (2 ^ 31) m)
 
   -- the code takes the half off first
-  taken : h ≤ v → h + h - v ≡ h - (v - h)
+  taken : x.half ≤ x.value → x.half + x.half - x.value ≡ x.half - (x.value - x.half)
   taken l = omega arith
 
-  pub minus_in : h ≤ v → h - (v - h) ≤ 2 ^ 31 → signed_of (Number.Found v h next) ≡ Read.Value (2 ^ 32 - (h - (v - h))) next
+  pub minus_in : x.half ≤ x.value → x.half - (x.value - x.half) ≤ 2 ^ 31 → signed_of x ≡ Ok (2 ^ 32 - (x.half - (x.value - x.half)), x.next)
   unfolding signed_of
-  minus_in l m = rw (taken l) (simp (le-ltb v h l, le-leb (h - (v - h)) (2 ^ 31) m))
+  minus_in l m = rw (taken l) (simp (le-ltb x.value x.half l, le-leb (x.half - (x.value - x.half)) (2 ^ 31) m))
 
-  pub minus_over : h ≤ v → 2 ^ 31 < h - (v - h) → signed_of (Number.Found v h next) ≡ Read.Refused Refusal.Value
+  pub minus_over : x.half ≤ x.value → 2 ^ 31 < x.half - (x.value - x.half) → signed_of x ≡ Err Refusal.Value
   unfolding signed_of
-  minus_over l m = rw (taken l) (simp (le-ltb v h l, lt-leb (h - (v - h)) (2 ^ 31) m))
-
-pub unsigned_refused : (r : Refusal) → unsigned_of (Number.Refused r) ≡ Read.Refused r
-unfolding unsigned_of
-unsigned_refused r = refl
-
-pub signed_refused : (r : Refusal) → signed_of (Number.Refused r) ≡ Read.Refused r
-unfolding signed_of
-signed_refused r = refl
+  minus_over l m = rw (taken l) (simp (le-ltb x.value x.half l, lt-leb (x.half - (x.value - x.half)) (2 ^ 31) m))
 
 -- a value goes on as far as the number
 module _ {at len : ℕ} where
-  pub unsigned_on : (n : Number) → NumberOn at len n → ReadsOn (NoLeb len) at len (unsigned_of n)
+  pub unsigned_on : (n : Answered Number) → NumberOn at len n → ReadsOn (NoLeb len) at len (and_then n unsigned_of)
   unfolding unsigned_of
-  unsigned_on n (NumberOn.number {v = v} b p q) =
-      pick_each (ReadsOn (NoLeb len) at len) (ltb v (2 ^ 32)) _ _ (λ t. ReadsOn.value (ltb-true v (2 ^ 32) t) p q) (λ _. ReadsOn.refused NoLeb.value)
+  unsigned_on n (NumberOn.number {n = x} b p q) =
+      pick_each (ReadsOn (NoLeb len) at len) (ltb x.value (2 ^ 32)) _ _ (λ t. ReadsOn.value (ltb-true x.value (2 ^ 32) t) p q) (λ _. ReadsOn.refused NoLeb.value)
   unsigned_on n (NumberOn.refused r) = ReadsOn.refused r
 
-  pub signed_on : (n : Number) → NumberOn at len n → ReadsOn (NoLeb len) at len (signed_of n)
+  pub signed_on : (n : Answered Number) → NumberOn at len n → ReadsOn (NoLeb len) at len (and_then n signed_of)
   unfolding signed_of
-  signed_on n (NumberOn.number {v = v} {h = h} b p q) =
+  signed_on n (NumberOn.number {n = x} b p q) =
       let P = ReadsOn (NoLeb len) at len in
-      pick_both P (ltb v h) _ _
-      (pick_each P (ltb v (2 ^ 31)) _ _ (λ t. let l = ltb-true v (2 ^ 31) t in ReadsOn.value (omega arith) p q) (λ _. ReadsOn.refused NoLeb.value))
-      (pick_both P (leb (h + h - v) (2 ^ 31)) _ _ (ReadsOn.value (omega arith) p q) (ReadsOn.refused NoLeb.value))
+      pick_both P (ltb x.value x.half) _ _
+      (pick_each P (ltb x.value (2 ^ 31)) _ _ (λ t. let l = ltb-true x.value (2 ^ 31) t in ReadsOn.value (omega arith) p q) (λ _. ReadsOn.refused NoLeb.value))
+      (pick_both P (leb (x.half + x.half - x.value) (2 ^ 31)) _ _ (ReadsOn.value (omega arith) p q) (ReadsOn.refused NoLeb.value))
   signed_on n (NumberOn.refused r) = ReadsOn.refused r

@@ -1,10 +1,10 @@
 -- The LEB reader and the pointer reader.
-use Rattle.std.specs.Prelude.{ℕ, List, [], ◌∷◌, length, nat_le, ◌==◌}
+use Rattle.std.specs.Prelude.{ℕ, List, [], ◌∷◌, length, nat_le, ◌==◌, Err}
 use Rattle.section.specs.declared.Refusal.{Refusal}
+use Rattle.section.specs.Check.{Answered, and_then}
 use Rattle.section.specs.Pick.{pick}
 use Rattle.section.specs.Rule.{table_most}
-use Rattle.pointer.specs.declared.Read.{Read}
-use Rattle.pointer.specs.Number.{leb_of, fixed_of, unsigned_of, signed_of}
+use Rattle.pointer.specs.Number.{Read, leb_of, fixed_of, unsigned_of, signed_of}
 
 -- how a value is written: as a LEB, as so many bytes, or in no way that is read
 pub data Form : Type 0 where
@@ -34,15 +34,15 @@ form_of = form_in forms
 
 -- the value at `at`, by its form: without one no byte is read
 unfoldable pub formed : List ℕ → ℕ → Form → Read
-formed s at uleb = unsigned_of (leb_of s at)
-formed s at sleb = signed_of (leb_of s at)
-formed s at (unsigned n) = unsigned_of (fixed_of s at n)
-formed s at (signed n) = signed_of (fixed_of s at n)
-formed s at omitted = Read.Refused Refusal.Encoding
+formed s at uleb = and_then (leb_of s at) unsigned_of
+formed s at sleb = and_then (leb_of s at) signed_of
+formed s at (unsigned n) = and_then (fixed_of s at n) unsigned_of
+formed s at (signed n) = and_then (fixed_of s at n) signed_of
+formed s at omitted = Err Refusal.Encoding
 
 -- data that is too long is refused before anything else
-unfoldable pub sized : List ℕ → Read → Read
-sized s r = pick (nat_le (length s) table_most) r (Read.Refused Refusal.Section)
+unfoldable pub sized : {A : Type 0} → List ℕ → Answered A → Answered A
+sized s r = pick (nat_le (length s) table_most) r (Err Refusal.Section)
 
 unfoldable pub uleb_of : List ℕ → ℕ → Read
 uleb_of s at = sized s (formed s at uleb)

@@ -1,4 +1,5 @@
-// A LEB's digits: a loop over at most five bytes that breaks with its answer.
+// A LEB's digits: at most five bytes, and the first below 0x80 ends it. instruction's ULEB has a loop of its own, over bytes in another order: a byte
+// reader that is passed in would need a contract of its own, and be no plainer. Both proofs cite the same laws.
 ghost use Rattle.std.specs.Prelude.{◌≡◌, ◌≤◌, length};
 ghost use Rattle.section.specs.Rule.{table_most};
 ghost use Rattle.pointer.specs.Number.{leb_of};
@@ -6,28 +7,29 @@ ghost use Rattle.pointer.specs.Number.{leb_of};
 use crate::number::Number;
 use section::{Off, Refusal, wide};
 
-pub(crate) fn read(data: &[u8], at: Off) -> Number
+#[tactic(auto, using(section::proofs::Ends::at_first, section::proofs::Ends::at_early, section::proofs::Ends::at_long, section::proofs::Ends::at_last, section::proofs::Ends::at_more), unfolding(crate::specs::Number::leb_of, crate::specs::Number::ended))]
+pub(crate) fn read(data: &[u8], at: Off) -> Result<Number, Refusal>
     requires { length «data».now ≤ table_most }
     ensures { result ≡ leb_of «data».now at.0 }
 {
     let from = at.0 as usize;
     let mut value: u64 = 0;
     let mut scale: u64 = 1;
-    let mut k: usize = 0;
-    loop {
-        if 5 <= k {
-            break Number::Refused(Refusal::Value);
-        }
+    for k in 0..5 {
         if data.len() <= from + k {
-            break Number::Refused(Refusal::Truncated);
+            return Err(Refusal::Truncated);
         }
         let byte = wide(data[from + k]);
         value = value + byte % 0x80 * scale;
         let ends = byte < 0x80;
         if ends {
-            break Number::Found(value, scale * 0x40, Off((from + k + 1) as u32));
+            return Ok(Number {
+                value,
+                half: scale * 0x40,
+                next: Off((from + k + 1) as u32),
+            });
         }
         scale = scale * 0x80;
-        k = k + 1;
     }
+    Err(Refusal::Value)
 }

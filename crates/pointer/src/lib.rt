@@ -10,49 +10,45 @@ mod fixed;
 mod leb;
 mod number;
 
-// A value and the place after it, or why there is none.
-#[derive(Clone, Copy)]
-pub enum Read {
-    Value(u32, Off),
-    Refused(Refusal),
-}
-
-// The unsigned LEB at a place.
-pub fn uleb(data: &[u8], at: Off) -> Read
+// The unsigned LEB at a place, and the place after it.
+#[tactic(auto, using(crate::proofs::Laws::too_long, crate::proofs::Laws::sized_is), unfolding(crate::specs::Pointer::uleb_of, crate::specs::Pointer::formed))]
+pub fn uleb(data: &[u8], at: Off) -> Result<(u32, Off), Refusal>
     ensures { result ≡ uleb_of «data».now at.0 }
 {
     if section::TABLE_MOST < data.len() {
-        return Read::Refused(Refusal::Section);
+        return Err(Refusal::Section);
     }
-    number::unsigned(leb::read(data, at))
+    leb::read(data, at)?.unsigned()
 }
 
-// The signed LEB at a place.
-pub fn sleb(data: &[u8], at: Off) -> Read
+// The signed LEB at a place, and the place after it.
+#[tactic(auto, using(crate::proofs::Laws::too_long, crate::proofs::Laws::sized_is, crate::proofs::Numbers::leb_bounded), unfolding(crate::specs::Pointer::sleb_of, crate::specs::Pointer::formed))]
+pub fn sleb(data: &[u8], at: Off) -> Result<(u32, Off), Refusal>
     ensures { result ≡ sleb_of «data».now at.0 }
 {
     if section::TABLE_MOST < data.len() {
-        return Read::Refused(Refusal::Section);
+        return Err(Refusal::Section);
     }
-    number::signed(leb::read(data, at))
+    leb::read(data, at)?.signed()
 }
 
-// The pointer at a place, by its encoding: which is tested before any byte.
-pub fn pointer(data: &[u8], at: Off, encoding: u8) -> Read
+// The pointer at a place, and the place after it, by its encoding: which is tested before any byte.
+#[tactic(auto, using(crate::proofs::Laws::too_long, crate::proofs::Laws::sized_is, crate::proofs::Numbers::leb_bounded, crate::proofs::Numbers::fixed_bounded), unfolding(crate::specs::Pointer::pointer_of, crate::specs::Pointer::formed))]
+pub fn pointer(data: &[u8], at: Off, encoding: u8) -> Result<(u32, Off), Refusal>
     ensures { result ≡ pointer_of «data».now at.0 encoding }
 {
     if section::TABLE_MOST < data.len() {
-        return Read::Refused(Refusal::Section);
+        return Err(Refusal::Section);
     }
     match encoding {
-        0x00 | 0x04 => number::unsigned(fixed::read(data, at, 8)),
-        0x01 => number::unsigned(leb::read(data, at)),
-        0x02 => number::unsigned(fixed::read(data, at, 2)),
-        0x03 => number::unsigned(fixed::read(data, at, 4)),
-        0x09 => number::signed(leb::read(data, at)),
-        0x0A => number::signed(fixed::read(data, at, 2)),
-        0x0B => number::signed(fixed::read(data, at, 4)),
-        0x0C => number::signed(fixed::read(data, at, 8)),
-        _ => Read::Refused(Refusal::Encoding),
+        0x00 | 0x04 => fixed::read(data, at, 8)?.unsigned(),
+        0x01 => leb::read(data, at)?.unsigned(),
+        0x02 => fixed::read(data, at, 2)?.unsigned(),
+        0x03 => fixed::read(data, at, 4)?.unsigned(),
+        0x09 => leb::read(data, at)?.signed(),
+        0x0A => fixed::read(data, at, 2)?.signed(),
+        0x0B => fixed::read(data, at, 4)?.signed(),
+        0x0C => fixed::read(data, at, 8)?.signed(),
+        _ => Err(Refusal::Encoding),
     }
 }

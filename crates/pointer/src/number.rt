@@ -2,55 +2,47 @@
 ghost use Rattle.std.specs.Prelude.{◌≡◌};
 ghost use Rattle.pointer.specs.Number.{unsigned_of, signed_of, Bounded};
 
-use crate::Read;
 use section::{Off, Refusal};
 
-// The number that the digits are, half of the power of the base that it lies below, and the place after it; or why there is none.
+// The number that the digits are, half of the power of the base that it lies below, and the place after it.
 #[derive(Clone, Copy)]
-pub(crate) enum Number {
-    Found(u64, u64, Off),
-    Refused(Refusal),
+pub(crate) struct Number {
+    pub value: u64,
+    pub half: u64,
+    pub next: Off,
 }
 
-// A number that stands for itself.
-pub(crate) fn unsigned(n: Number) -> Read
-    ensures { result ≡ unsigned_of n }
-{
-    match n {
-        Number::Found(value, _, next) => {
-            if value < 0x1_0000_0000 {
-                Read::Value(value as u32, next)
-            } else {
-                Read::Refused(Refusal::Value)
-            }
+impl Number {
+    // A number that stands for itself.
+    #[tactic(auto, unfolding(crate::specs::Number::unsigned_of))]
+    pub(crate) fn unsigned(self) -> Result<(u32, Off), Refusal>
+        ensures { result ≡ unsigned_of self }
+    {
+        if self.value < 0x1_0000_0000 {
+            Ok((self.value as u32, self.next))
+        } else {
+            Err(Refusal::Value)
         }
-        Number::Refused(r) => Read::Refused(r),
     }
-}
 
-// A number in two's complement.
-#[tactic(auto, using(crate::proofs::Numbers::plus_in, crate::proofs::Numbers::plus_over, crate::proofs::Numbers::minus_in, crate::proofs::Numbers::minus_over, crate::proofs::Numbers::signed_refused), unfolding(crate::specs::Number::Bounded))]
-pub(crate) fn signed(n: Number) -> Read
-    requires { Bounded n }
-    ensures { result ≡ signed_of n }
-{
-    match n {
-        Number::Found(value, half, next) => {
-            if value < half {
-                if value < 0x8000_0000 {
-                    Read::Value(value as u32, next)
-                } else {
-                    Read::Refused(Refusal::Value)
-                }
+    // A number in two's complement.
+    #[tactic(auto, using(crate::proofs::Numbers::plus_in, crate::proofs::Numbers::plus_over, crate::proofs::Numbers::minus_in, crate::proofs::Numbers::minus_over))]
+    pub(crate) fn signed(self) -> Result<(u32, Off), Refusal>
+        requires { Bounded self }
+        ensures { result ≡ signed_of self }
+    {
+        if self.value < self.half {
+            return if self.value < 0x8000_0000 {
+                Ok((self.value as u32, self.next))
             } else {
-                let minus = half - (value - half);
-                if minus <= 0x8000_0000 {
-                    Read::Value((0x1_0000_0000 - minus) as u32, next)
-                } else {
-                    Read::Refused(Refusal::Value)
-                }
-            }
+                Err(Refusal::Value)
+            };
         }
-        Number::Refused(r) => Read::Refused(r),
+        let minus = self.half - (self.value - self.half);
+        if minus <= 0x8000_0000 {
+            Ok(((0x1_0000_0000 - minus) as u32, self.next))
+        } else {
+            Err(Refusal::Value)
+        }
     }
 }

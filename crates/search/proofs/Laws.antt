@@ -1,5 +1,6 @@
 -- What the search answers: on any index an entry that begins at or below the counter, with at most 14 function words read; and on an index whose
 -- functions rise, the one entry whose stretch holds the counter, or that there is none. Assumes nothing.
+use Rattle.std.proofs.Common.{Ok, Err}
 use Prim.Native.Nat.{ℕ, zero, suc, ◌+◌, ◌-◌, ◌*◌, ◌/◌, ◌^◌, ◌≤◌, ◌<◌}
 use mathlib.Core.Path.{◌≡◌, refl, sym, ap, ◌∙◌}
 use mathlib.Core.List.{List}
@@ -9,18 +10,17 @@ use native.Mathlib.Nat.{pow-suc}
 use lib.ListN.{length}
 use lib.Dec.{leb, ltb, eqb}
 use borrow.Author.Tests.{ltb-true, ltb-false, leb-true, leb-false, eqb-true, eqb-false}
+use Rattle.std.specs.Result.{result_and}
 use Rattle.section.specs.Pick.{pick}
-use Rattle.section.specs.Check.{on_check}
 use Rattle.section.specs.Number.{number}
 use Rattle.section.specs.Rule.{index_rule, IndexSection}
+use Rattle.section.specs.Check.{Answered, Check, fine, and_then}
 use Rattle.section.specs.declared.Addr.{Addr}
-use Rattle.section.specs.declared.Check.{Check}
 use Rattle.section.specs.declared.Refusal.{Refusal}
 use Rattle.section.proofs.Picks.{by_test, pick_each}
 use Rattle.section.proofs.Checks.{fault_not}
 use Rattle.section.proofs.Rules.{index_exact, index_fault}
-use Rattle.entry.specs.Index.{entries, function_of, function_at, on_function}
-use Rattle.entry.specs.declared.FunctionRead.{FunctionRead}
+use Rattle.entry.specs.Index.{entries, function_of, function_at}
 use Rattle.entry.specs.Read.{FunctionGives}
 use Rattle.entry.proofs.Laws.{function_sound, function_gives}
 use Rattle.image.specs.Image.{Image, entry_at, led_by}
@@ -29,16 +29,15 @@ use Rattle.search.specs.Search.{hit, side, halve_from, halve, search_of}
 use Rattle.search.specs.Reasons.{NoHit}
 use Rattle.search.specs.Rising.{Begins, Rising, Holds, Located, SearchGives}
 use Rattle.search.specs.declared.Hit.{Hit}
-use Rattle.search.specs.declared.Searched.{Searched}
 use Rattle.search.proofs.Ways.{search_empty, search_below, search_halve}
 
 -- ---- what holds of each way on holds of the answer
-on_each : (P : Searched → Type 0) (r : FunctionRead) (go : Addr → Searched)
-    → ((f : Addr) → r ≡ FunctionRead.At f → P (go f)) → ((x : Refusal) → r ≡ FunctionRead.Refused x → P (Searched.Refused x)) → P (on_function r go Searched.Refused)
-on_each P (FunctionRead.At f) go h g = h f refl
-on_each P (FunctionRead.Refused x) go h g = g x refl
+on_each : (P : Answered Hit → Type 0) (r : Answered Addr) (go : Addr → Answered Hit)
+    → ((f : Addr) → r ≡ Ok f → P (go f)) → ((x : Refusal) → r ≡ Err x → P (Err x)) → P (and_then r go)
+on_each P (Ok f) go h g = h f refl
+on_each P (Err x) go h g = g x refl
 
-side_each : (P : Searched → Type 0) (t : Bool) (low : ℕ) (f : Addr) (m : ℕ) (g : Addr) (high : ℕ) (go : ℕ → Addr → ℕ → Searched)
+side_each : (P : Answered Hit → Type 0) (t : Bool) (low : ℕ) (f : Addr) (m : ℕ) (g : Addr) (high : ℕ) (go : ℕ → Addr → ℕ → Answered Hit)
     → (t ≡ true → P (go m g high)) → (t ≡ false → P (go low f m)) → P (side t low f m g high go)
 side_each P true low f m g high go p q = p refl
 side_each P false low f m g high go p q = q refl
@@ -47,22 +46,22 @@ module _ (xs : List ℕ) (a counter : Addr) where
   -- ---- on any index
   -- the function of an entry was read, and stands at or below the counter
   abbrev Begun : ℕ → Addr → Type 0
-  Begun e f = (function_at xs a e ≡ FunctionRead.At f) × (f.0 ≤ counter.0)
+  Begun e f = (function_at xs a e ≡ Ok f) × (f.0 ≤ counter.0)
 
   -- an entry that is found lies in low .. high, and begins, and at most so many words were read; a refusal has its reason
-  abbrev Within : ℕ → ℕ → ℕ → Searched → Type 0
-  Within low high most (Searched.Found h) = (low ≤ h.entry) × (h.entry < high) × (h.probes ≤ most) × Begun h.entry h.function
-  Within low high most (Searched.Refused r) = NoHit (length xs) a r
+  abbrev Within : ℕ → ℕ → ℕ → Answered Hit → Type 0
+  Within low high most (Ok h) = (low ≤ h.entry) × (h.entry < high) × (h.probes ≤ most) × Begun h.entry h.function
+  Within low high most (Err r) = NoHit (length xs) a r
 
-  widen : (low high low' high' most most' : ℕ) (r : Searched) → low ≤ low' → high' ≤ high → most' ≤ most → Within low' high' most' r → Within low high most r
-  widen low high low' high' most most' (Searched.Found h) p q m w = (omega arith, omega arith, omega arith, w.3)
-  widen low high low' high' most most' (Searched.Refused r) p q m w = w
+  widen : (low high low' high' most most' : ℕ) (r : Answered Hit) → low ≤ low' → high' ≤ high → most' ≤ most → Within low' high' most' r → Within low high most r
+  widen low high low' high' most most' (Ok h) p q m w = (omega arith, omega arith, omega arith, w.3)
+  widen low high low' high' most most' (Err r) p q m w = w
 
   -- a function word that is there is refused with 3
-  refused_why : IndexSection (length xs) a → (k : ℕ) → k < entries xs → (x : Refusal) → function_at xs a k ≡ FunctionRead.Refused x → NoHit (length xs) a x
+  refused_why : IndexSection (length xs) a → (k : ℕ) → k < entries xs → (x : Refusal) → function_at xs a k ≡ Err x → NoHit (length xs) a x
   refused_why s k h x e = go x (rw e at (function_gives xs a k s))
     where
-      go : (x : Refusal) → FunctionGives xs a k (FunctionRead.Refused x) → NoHit (length xs) a x
+      go : (x : Refusal) → FunctionGives xs a k (Err x) → NoHit (length xs) a x
       go x (FunctionGives.corrupt _) = NoHit.corrupt
       go x (FunctionGives.truncated g) = absurd (omega arith)
 
@@ -73,13 +72,13 @@ module _ (xs : List ℕ) (a counter : Addr) where
   within_from s zero m low f high probes h i p q b = (omega arith, omega arith, omega arith, b)
   within_from s (suc k) zero low f high probes h i p q b =
       let n : high - low ≤ 1 = omega arith in
-      pick_each (Within low high (probes + 0)) (ltb 1 (high - low)) _ (Searched.Found (hit low f probes))
+      pick_each (Within low high (probes + 0)) (ltb 1 (high - low)) _ (Ok (hit low f probes))
       (λ t. absurd (omega (arith, ltb-true 1 (high - low) t)))
       (λ t. (omega arith, omega arith, omega arith, b))
   within_from s (suc k) (suc m) low f high probes h i p q b =
       let mid = (low + high) / 2 in
       let e : 2 ^ suc m ≡ 2 ^ m * 2 = pow-suc 2 m in
-      pick_each (Within low high (probes + suc m)) (ltb 1 (high - low)) _ (Searched.Found (hit low f probes))
+      pick_each (Within low high (probes + suc m)) (ltb 1 (high - low)) _ (Ok (hit low f probes))
       (λ t.
       let n = ltb-true 1 (high - low) t in
       on_each (Within low high (probes + suc m)) (function_at xs a mid) _
@@ -101,8 +100,8 @@ module _ (xs : List ℕ) (a counter : Addr) where
   within = go (index_rule (length xs) a) refl
     where
       go : (x : Check) → index_rule (length xs) a ≡ x
-          → Within 0 (entries xs) 14 (on_check x (pick (eqb (entries xs) 0) (Searched.Refused Refusal.NoEntry) (on_function (function_at xs a 0) (λ f. pick (ltb counter.0 f.0) (Searched.Refused Refusal.NoEntry) (halve xs a counter 0 f (entries xs) 1)) Searched.Refused)) Searched.Refused)
-      go Check.Fine e =
+          → Within 0 (entries xs) 14 (result_and x (pick (eqb (entries xs) 0) (Err Refusal.NoEntry) (and_then (function_at xs a 0) (λ f. pick (ltb counter.0 f.0) (Err Refusal.NoEntry) (halve xs a counter 0 f (entries xs) 1)))))
+      go fine e =
           let s = (index_exact (length xs) a).0 e in
           let m = s.section.short in
           pick_each (Within 0 (entries xs) 14) (eqb (entries xs) 0) _ _ (λ t. NoHit.no_entry)
@@ -111,20 +110,20 @@ module _ (xs : List ℕ) (a counter : Addr) where
           (λ f r. pick_each (Within 0 (entries xs) 14) (ltb counter.0 f.0) _ _ (λ u. NoHit.no_entry)
           (λ u. within_halve s (entries xs) f (omega arith) (omega arith) (omega arith) (r, ltb-false counter.0 f.0 u)))
           (λ x r. refused_why s 0 (omega arith) x r))
-      go (Check.Fault r) e = rw (index_fault (length xs) a r e) (NoHit.section (fault_not (index_rule (length xs) a) r (index_exact (length xs) a) e))
+      go (Err r) e = rw (index_fault (length xs) a r e) (NoHit.section (fault_not (index_rule (length xs) a) r (index_exact (length xs) a) e))
 
   -- any entry that is found
-  pub found_begins : (h : Hit) → search_of xs a counter ≡ Searched.Found h → Begins xs a counter h
+  pub found_begins : (h : Hit) → search_of xs a counter ≡ Ok h → Begins xs a counter h
   found_begins h e =
-      let w : Within 0 (entries xs) 14 (Searched.Found h) = rw e at within in
+      let w : Within 0 (entries xs) 14 (Ok h) = rw e at within in
       record { inside = w.1; read = w.3.0; below = w.3.1; few = w.2 }
 
   -- why a search is refused
-  pub search_why : (r : Refusal) → search_of xs a counter ≡ Searched.Refused r → NoHit (length xs) a r
+  pub search_why : (r : Refusal) → search_of xs a counter ≡ Err r → NoHit (length xs) a r
   search_why r e = rw e at within
 
 -- an entry that is found leads on by the function that was read on the way
-pub found_led : (i : Image) (counter : Addr) (h : Hit) → search_of i.index i.index_at counter ≡ Searched.Found h → led_by i h.entry h.function ≡ entry_at i h.entry
+pub found_led : (i : Image) (counter : Addr) (h : Hit) → search_of i.index i.index_at counter ≡ Ok h → led_by i h.entry h.function ≡ entry_at i h.entry
 found_led i counter h e = sym (entry_is_led i h.entry h.function (found_begins i.index i.index_at counter h e).read)
 
 -- ---- on rising functions
@@ -172,11 +171,11 @@ module _ (xs : List ℕ) (a counter : Addr) (up : Rising xs a) where
   only_one j k p q = let x = last k q j p.inside p.starts in let y = last j p k q.inside q.starts in omega arith
 
   -- ---- the halving keeps function low ≤ counter < function high
-  abbrev Stretch : Searched → Type 0
-  Stretch (Searched.Found h) = Holds xs a counter h.entry
-  Stretch (Searched.Refused r) = ⊥
+  abbrev Stretch : Answered Hit → Type 0
+  Stretch (Ok h) = Holds xs a counter h.entry
+  Stretch (Err r) = ⊥
 
-  sound_at : (k : ℕ) → k < entries xs → function_at xs a k ≡ FunctionRead.At (function_of xs a k)
+  sound_at : (k : ℕ) → k < entries xs → function_at xs a k ≡ Ok (function_of xs a k)
   sound_at k h = function_sound xs a k up.section h (up.sound k h)
 
   ended : (low high : ℕ) → low < high → high ≤ entries xs → high ≤ low + 1 → F low ≤ counter.0 → (high < entries xs → counter.0 < F high) → Holds xs a counter low
@@ -204,17 +203,17 @@ module _ (xs : List ℕ) (a counter : Addr) (up : Rising xs a) where
   halved h b = halving (entries xs - 0) 0 (function_of xs a 0) (entries xs) 1 h (omega arith) (omega arith) b (λ l. absurd (omega arith))
 
   -- ---- the theorem
-  passes : index_rule (length xs) a ≡ Check.Fine
+  passes : index_rule (length xs) a ≡ fine
   passes = (index_exact (length xs) a).1 up.section
 
-  located : (r : Searched) → search_of xs a counter ≡ r → Stretch r → Located xs a counter (search_of xs a counter)
-  located (Searched.Found h) e s =
+  located : (r : Answered Hit) → search_of xs a counter ≡ r → Stretch r → Located xs a counter (search_of xs a counter)
+  located (Ok h) e s =
       let b = found_begins xs a counter h e in
       let q = sound_at h.entry b.inside in
       let r = b.read in
       let f : h.function ≡ function_of xs a h.entry = cc in
-      record { entry = h.entry; probes = h.probes; found = e ∙ ap (λ (g : Addr). Searched.Found (hit h.entry g h.probes)) f; few = b.few; covers = s; last = last h.entry s; only = λ j c. only_one j h.entry c s }
-  located (Searched.Refused r) e s = absurd s
+      record { entry = h.entry; probes = h.probes; found = e ∙ ap (λ (g : Addr). Ok (hit h.entry g h.probes)) f; few = b.few; covers = s; last = last h.entry s; only = λ j c. only_one j h.entry c s }
+  located (Err r) e s = absurd s
 
   -- at or above the first function: the one entry whose stretch holds the counter
   finds : 0 < entries xs → F 0 ≤ counter.0 → Located xs a counter (search_of xs a counter)

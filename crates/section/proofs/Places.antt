@@ -1,5 +1,5 @@
 -- Laws of addresses, offsets, sums that must fit and prel31. Assumes nothing.
-use Rattle.std.proofs.Common.{◌≡◌, ℕ, ◌+◌, ◌-◌, ◌%◌, ◌^◌, ◌<◌, ◌≤◌, Bool, true, false, ltb, refl, ap, ◌∙◌, arith, ltb-false, ltb-true, le-ltb, lt-ltb, le-leb}
+use Rattle.std.proofs.Common.{◌≡◌, ℕ, ◌+◌, ◌-◌, ◌%◌, ◌^◌, ◌<◌, ◌≤◌, Bool, true, false, ltb, refl, ap, ◌∙◌, arith, ltb-false, ltb-true, le-ltb, lt-ltb, le-leb, Some, None}
 use borrow.Author.Tests.{lt-leb}
 use Rattle.section.specs.Pick.{pick}
 use Rattle.section.specs.Place.{addr, off, address_of, offset_of}
@@ -7,25 +7,23 @@ use Rattle.section.specs.Sum.{plus_of}
 use Rattle.section.specs.Prel31.{Distance, signed31, prel31_of, Ranged}
 use Rattle.section.specs.declared.Addr.{Addr}
 use Rattle.section.specs.declared.Off.{Off}
-use Rattle.section.specs.declared.Place.TheVariants.{At, Outside}
-use Rattle.section.specs.declared.Summed.{Summed}
 use Rattle.section.proofs.Picks.{by_test}
 
 module _ (s : Addr) (len : ℕ) (a : Addr) where
-  pub offset_in : s.0 ≤ a.0 → a.0 - s.0 < len → offset_of s len a ≡ At (off (a.0 - s.0))
+  pub offset_in : s.0 ≤ a.0 → a.0 - s.0 < len → offset_of s len a ≡ Some (off (a.0 - s.0))
   unfolding offset_of
   offset_in h g = simp (le-ltb _ _ h, lt-ltb _ _ g)
 
-  pub offset_past : s.0 ≤ a.0 → len ≤ a.0 - s.0 → offset_of s len a ≡ Outside
+  pub offset_past : s.0 ≤ a.0 → len ≤ a.0 - s.0 → offset_of s len a ≡ None
   unfolding offset_of
   offset_past h g = simp (le-ltb _ _ h, le-ltb _ _ g)
 
-  pub offset_below : a.0 < s.0 → offset_of s len a ≡ Outside
+  pub offset_below : a.0 < s.0 → offset_of s len a ≡ None
   unfolding offset_of
   offset_below h = simp (lt-ltb _ _ h)
 
   -- an offset that was found lies in the section
-  pub offset_inside : (o : Off) → offset_of s len a ≡ At o → o.0 < len
+  pub offset_inside : (o : Off) → offset_of s len a ≡ Some o → o.0 < len
   offset_inside o e =
       by_test (ltb a.0 s.0)
       (λ t. let h = offset_below (ltb-true _ _ t) in let z : ◌≡◌ {A = ℕ} 0 1 = cc in absurd (omega arith))
@@ -35,7 +33,7 @@ module _ (s : Addr) (len : ℕ) (a : Addr) where
       (λ u. let h = offset_past b (ltb-false _ _ u) in let z : ◌≡◌ {A = ℕ} 0 1 = cc in absurd (omega arith)))
 
   -- the two conversions are inverses: the address of an offset that was found is the one it was found for ..
-  pub address_back : a.0 < 2 ^ 32 → (o : Off) → offset_of s len a ≡ At o → address_of s o ≡ a
+  pub address_back : a.0 < 2 ^ 32 → (o : Off) → offset_of s len a ≡ Some o → address_of s o ≡ a
   address_back h o e =
       by_test (ltb a.0 s.0)
       (λ t. let g = offset_below (ltb-true _ _ t) in let z : ◌≡◌ {A = ℕ} 0 1 = cc in absurd (omega arith))
@@ -48,18 +46,18 @@ module _ (s : Addr) (len : ℕ) (a : Addr) where
       sum k b = omega (arith, h, k, b)
 
 -- .. and an offset inside a section has an address, which leads back to it
-pub offset_back : (s : Addr) (len : ℕ) (o : Off) → s.0 + len ≤ 2 ^ 32 → o.0 < len → offset_of s len (address_of s o) ≡ At o
+pub offset_back : (s : Addr) (len : ℕ) (o : Off) → s.0 + len ≤ 2 ^ 32 → o.0 < len → offset_of s len (address_of s o) ≡ Some o
 offset_back s len o h g =
     let e : (s.0 + o.0) % 2 ^ 32 ≡ s.0 + o.0 = omega arith in
     let d : s.0 + o.0 - s.0 ≡ o.0 = omega arith in
-    rw e (offset_in s len (addr (s.0 + o.0)) (omega arith) (omega arith) ∙ ap (λ (n : ℕ). At (off n)) d)
+    rw e (offset_in s len (addr (s.0 + o.0)) (omega arith) (omega arith) ∙ ap (λ (n : ℕ). Some (off n)) d)
 
 -- ---- sums that must fit
-pub plus_in : (a : Addr) (n : ℕ) → a.0 + n ≤ 0xFFFFFFFF → plus_of a n ≡ Summed.At (addr (a.0 + n))
+pub plus_in : (a : Addr) (n : ℕ) → a.0 + n ≤ 0xFFFFFFFF → plus_of a n ≡ Some (addr (a.0 + n))
 unfolding plus_of
 plus_in a n h = simp (le-leb _ _ h)
 
-pub plus_over : (a : Addr) (n : ℕ) → 0xFFFFFFFF < a.0 + n → plus_of a n ≡ Summed.Over
+pub plus_over : (a : Addr) (n : ℕ) → 0xFFFFFFFF < a.0 + n → plus_of a n ≡ None
 unfolding plus_of
 plus_over a n h = simp (lt-leb _ _ h)
 

@@ -1,11 +1,10 @@
 -- Laws of walks, proved once. The fuel stays in here. Assumes nothing.
-use Rattle.std.proofs.Common.{◌≡◌, ℕ, zero, suc, ◌+◌, ◌<◌, ◌↔◌, refl, ap, arith}
-use Rattle.section.specs.Check.{and_then}
+use Rattle.std.proofs.Common.{◌≡◌, ℕ, zero, suc, ◌+◌, ◌<◌, ◌↔◌, refl, ap, arith, Err}
+use Rattle.std.specs.Result.{result_and}
+use Rattle.section.specs.Check.{Check, fine}
 use Rattle.section.proofs.Checks.{and_fine, fine_and, no_fault}
 use Rattle.section.specs.Walk.{Look, Trail, go_on, trail_from, trail_of, checked, Reached, Sound, Clean, Upward}
 use Rattle.section.specs.declared.Refusal.{Refusal}
-use Rattle.section.specs.declared.Check.{Check}
-use Rattle.section.specs.declared.Check.TheVariants.{Fine, Fault}
 
 -- a position for each place below the limit, and one for the end
 abbrev Enough : ℕ → ℕ → ℕ → Type 0
@@ -45,45 +44,45 @@ module _ {A : Type 0} (look : ℕ → Look ℕ A) (limit at : ℕ) where
 
 -- the test of a whole trail, a turn at a time
 module _ {A : Type 0} (f : A → Check) where
-  pub checked_end : checked f Trail.end ≡ Fine
+  pub checked_end : checked f Trail.end ≡ fine
   unfolding checked
   checked_end = refl
 
-  pub checked_stop : (r : Refusal) → checked f (Trail.stop r) ≡ Fault r
+  pub checked_stop : (r : Refusal) → checked f (Trail.stop r) ≡ Err r
   unfolding checked
   checked_stop r = refl
 
-  pub checked_more : (a : A) (t : Trail A) → checked f (Trail.more a t) ≡ and_then (f a) (checked f t)
+  pub checked_more : (a : A) (t : Trail A) → checked f (Trail.more a t) ≡ result_and (f a) (checked f t)
   unfolding checked
   checked_more a t = refl
 
-  pub more_fine : (a : A) (t : Trail A) → checked f (Trail.more a t) ≡ Fine → (f a ≡ Fine) × (checked f t ≡ Fine)
+  pub more_fine : (a : A) (t : Trail A) → checked f (Trail.more a t) ≡ fine → (f a ≡ fine) × (checked f t ≡ fine)
   unfolding checked
   more_fine a t e = and_fine (f a) (checked f t) e
 
-module _ {A : Type 0} (P : A → Type 0) (f : A → Check) (same : (a : A) → (f a ≡ Fine) ↔ P a) (look : ℕ → Look ℕ A) where
-  clean_passes : (k at : ℕ) → Clean P look at → checked f (trail_from Trail.end k look at) ≡ Fine
+module _ {A : Type 0} (P : A → Type 0) (f : A → Check) (same : (a : A) → (f a ≡ fine) ↔ P a) (look : ℕ → Look ℕ A) where
+  clean_passes : (k at : ℕ) → Clean P look at → checked f (trail_from Trail.end k look at) ≡ fine
   unfolding trail_from checked
   clean_passes zero at c = refl
   clean_passes (suc k) at c = go (look at) refl (c at Reached.here) (λ m. clean_passes k m)
     where
-      go : (x : Look ℕ A) → look at ≡ x → Sound P x → ((m : ℕ) → Clean P look m → checked f (trail_from Trail.end k look m) ≡ Fine) → checked f (go_on x (λ m. trail_from Trail.end k look m)) ≡ Fine
+      go : (x : Look ℕ A) → look at ≡ x → Sound P x → ((m : ℕ) → Clean P look m → checked f (trail_from Trail.end k look m) ≡ fine) → checked f (go_on x (λ m. trail_from Trail.end k look m)) ≡ fine
       go Look.done e s h = refl
-      go (Look.last a) e (Sound.at_last p) h = fine_and (f a) Fine ((same a).1 p) refl
+      go (Look.last a) e (Sound.at_last p) h = fine_and (f a) fine ((same a).1 p) refl
       go (Look.item a m) e (Sound.at_item p) h = fine_and (f a) _ ((same a).1 p) (h m (λ q r. c q (Reached.onward e r)))
       go (Look.bad r) e s h = elim s [ ]
 
-  passes_clean : (limit : ℕ) → Upward look limit → (k at : ℕ) → Enough limit at k → checked f (trail_from Trail.end k look at) ≡ Fine → Clean P look at
+  passes_clean : (limit : ℕ) → Upward look limit → (k at : ℕ) → Enough limit at k → checked f (trail_from Trail.end k look at) ≡ fine → Clean P look at
   unfolding trail_from checked
   passes_clean limit up k at en h q r = go r k en h
     where
-      sound : (x : Look ℕ A) (g : ℕ → Trail A) → checked f (go_on x g) ≡ Fine → Sound P x
+      sound : (x : Look ℕ A) (g : ℕ → Trail A) → checked f (go_on x g) ≡ fine → Sound P x
       sound Look.done g h = Sound.at_end
       sound (Look.bad r) g h = no_fault r h
-      sound (Look.last a) g h = Sound.at_last ((same a).0 (and_fine (f a) Fine h).0)
+      sound (Look.last a) g h = Sound.at_last ((same a).0 (and_fine (f a) fine h).0)
       sound (Look.item a m) g h = Sound.at_item ((same a).0 (and_fine (f a) (checked f (g m)) h).0)
 
-      go : {p q : ℕ} → Reached look p q → (k : ℕ) → Enough limit p k → checked f (trail_from Trail.end k look p) ≡ Fine → Sound P (look q)
+      go : {p q : ℕ} → Reached look p q → (k : ℕ) → Enough limit p k → checked f (trail_from Trail.end k look p) ≡ fine → Sound P (look q)
       go {p} Reached.here zero en h = absurd (omega arith)
       go {p} Reached.here (suc k) en h = sound (look p) (λ m. trail_from Trail.end k look m) h
       go (Reached.onward e r) zero en h = absurd (omega arith)
@@ -92,6 +91,6 @@ module _ {A : Type 0} (P : A → Type 0) (f : A → Check) (same : (a : A) → (
           go r k (omega arith, omega arith) (and_fine (f a) (checked f (trail_from Trail.end k look m)) (rw e at h)).1
 
   -- a walk passes a test exactly if it is clean
-  pub walk_exact : (limit : ℕ) → Upward look limit → (at : ℕ) → (checked f (trail_of look limit at) ≡ Fine) ↔ Clean P look at
+  pub walk_exact : (limit : ℕ) → Upward look limit → (at : ℕ) → (checked f (trail_of look limit at) ≡ fine) ↔ Clean P look at
   unfolding trail_of
   walk_exact limit up at = (passes_clean limit up (suc limit) at (omega arith, omega arith), clean_passes (suc limit) at)

@@ -1,16 +1,15 @@
 -- Laws of little-endian words: what a crate above cites, so that it never unfolds `word_at`. Assumes nothing.
-use Rattle.std.proofs.Common.{◌≡◌, ℕ, ◌+◌, ◌-◌, ◌<◌, ◌≤◌, leb, List, length, get_or, take, drop, sym, refl, ◌∙◌, add-zero, arith, length-drop, length-take-le, get_or-drop, get_or-take, w8, Fits, le-leb, leb-false, leb-true}
+use Rattle.std.proofs.Common.{unwrap_or, ap, ◌≡◌, ℕ, ◌+◌, ◌-◌, ◌<◌, ◌≤◌, leb, List, length, get_or, take, drop, sym, refl, ◌∙◌, add-zero, arith, length-drop, length-take-le, get_or-drop, get_or-take, w8, Fits, le-leb, leb-false, leb-true, Some, None}
 use borrow.Author.Tests.{lt-leb}
 use Rattle.section.specs.Word.{le32, word, word_at, word_or_zero}
-use Rattle.section.specs.declared.Word.TheVariants.{At, Short}
 use Rattle.section.proofs.Picks.{by_test}
 
 module _ (xs : List ℕ) (o : ℕ) where
-  pub word_in : o + 4 ≤ length xs → word_at xs o ≡ At (word xs o)
+  pub word_in : o + 4 ≤ length xs → word_at xs o ≡ Some (word xs o)
   unfolding word_at
   word_in h = simp (le-leb _ _ h)
 
-  pub word_out : length xs < o + 4 → word_at xs o ≡ Short
+  pub word_out : length xs < o + 4 → word_at xs o ≡ None
   unfolding word_at
   word_out h = simp (lt-leb _ _ h)
 
@@ -23,25 +22,25 @@ module _ (xs : List ℕ) (o : ℕ) where
   word_zero h = simp (lt-leb _ _ h)
 
   -- a word that was read was there
-  pub word_here : (w : ℕ) → word_at xs o ≡ At w → (o + 4 ≤ length xs) × (w ≡ word xs o)
+  pub word_here : (w : ℕ) → word_at xs o ≡ Some w → (o + 4 ≤ length xs) × (w ≡ word xs o)
   word_here w e =
       by_test (leb (o + 4) (length xs))
       (λ t. let h = word_in (leb-true _ _ t) in (leb-true _ _ t, cc))
       (λ f. let h = word_out (leb-false _ _ f) in let z : ◌≡◌ {A = ℕ} 0 1 = cc in absurd (omega arith))
 
   -- and one that was not there ran past the end
-  pub word_gone : word_at xs o ≡ Short → length xs < o + 4
+  pub word_gone : word_at xs o ≡ None → length xs < o + 4
   word_gone e =
       by_test (leb (o + 4) (length xs))
       (λ t. let h = word_in (leb-true _ _ t) in let z : ◌≡◌ {A = ℕ} 0 1 = cc in absurd (omega arith))
       (λ f. leb-false _ _ f)
 
-  -- by what was read
-  pub word_or_at : (w : ℕ) → word_at xs o ≡ At w → word_or_zero xs o ≡ w
-  word_or_at w e = word_there (word_here w e).0 ∙ sym (word_here w e).1
-
-  pub word_or_short : word_at xs o ≡ Short → word_or_zero xs o ≡ 0
-  word_or_short e = word_zero (word_gone e)
+  -- and 0 stands for one that was not there
+  pub word_or : word_or_zero xs o ≡ unwrap_or (word_at xs o) 0
+  word_or =
+      by_test (leb (o + 4) (length xs))
+      (λ t. word_there (leb-true _ _ t) ∙ ap (λ x. unwrap_or x 0) (sym (word_in (leb-true _ _ t))))
+      (λ f. word_zero (leb-false _ _ f) ∙ ap (λ x. unwrap_or x 0) (sym (word_out (leb-false _ _ f))))
 
   first_of : (n : ℕ) → o + n ≤ length xs → 4 ≤ n → word_or_zero (take n (drop o xs)) 0 ≡ word xs o
   unfolding word_or_zero word

@@ -1,11 +1,10 @@
 -- A walk: from a place to the next, an item at each, until it is done, meets a last item, or something there cannot be read.
 -- Instructions of an entry and call sites of language data are walks over positions; runs, audits and searches are functions of one trail. A place can
 -- be anything.
-use Rattle.std.specs.Prelude.{◌≡◌, ℕ, zero, suc, ◌<◌}
-use Rattle.section.specs.Check.{and_then}
+use Rattle.std.specs.Prelude.{◌≡◌, ℕ, zero, suc, ◌<◌, Err}
+use Rattle.std.specs.Result.{result_and}
+use Rattle.section.specs.Check.{Check, fine}
 use Rattle.section.specs.declared.Refusal.{Refusal}
-use Rattle.section.specs.declared.Check.{Check}
-use Rattle.section.specs.declared.Check.TheVariants.{Fine, Fault}
 
 -- what stands at a place
 pub data Look (S A : Type 0) : Type 0 where
@@ -37,9 +36,9 @@ trail_of look limit at = trail_from end (suc limit) look at
 
 -- every item of a trail tested in order, and what stopped it: the first fault
 unfoldable pub checked : {A : Type 0} → (A → Check) → Trail A → Check
-checked f end = Fine
-checked f (stop r) = Fault r
-checked f (more a t) = and_then (f a) (checked f t)
+checked f end = fine
+checked f (stop r) = Err r
+checked f (more a t) = result_and (f a) (checked f t)
 
 -- ---- without the walk
 -- from p the walk comes to q

@@ -20,34 +20,41 @@ pub const STACK_MOST: usize = 65536;
 pub const WORDS_MOST: usize = 65536;
 
 // An address of the target.
-#[derive(Clone, Copy)]
+#[derive(Clone, Copy, Debug, PartialEq, Eq)]
 pub struct Addr(pub u32);
 
 // An offset in a section.
-#[derive(Clone, Copy)]
+#[derive(Clone, Copy, Debug, PartialEq, Eq)]
 pub struct Off(pub u32);
 
-// Why there is no answer: the paper's table.
+// The bytes of a section, and where they stand.
 #[derive(Clone, Copy)]
+pub struct Section<'a> {
+    pub bytes: &'a [u8],
+    pub at: Addr,
+}
+
+// Why there is no answer, with its number: the paper's table.
+#[derive(Clone, Copy, Debug, PartialEq, Eq)]
 pub enum Refusal {
-    Section,
-    NoEntry,
-    Corrupt,
-    Unsorted,
-    Place,
-    Truncated,
-    Selector,
-    Encoding,
-    Value,
-    Sum,
-    NoSite,
-    Refused,
-    Reserved,
-    Unsupported,
-    Malformed,
-    Regs,
-    Stack,
-    Bundle,
+    Section = 1,
+    NoEntry = 2,
+    Corrupt = 3,
+    Unsorted = 4,
+    Place = 5,
+    Truncated = 6,
+    Selector = 7,
+    Encoding = 8,
+    Value = 9,
+    Sum = 10,
+    NoSite = 11,
+    Refused = 12,
+    Reserved = 13,
+    Unsupported = 14,
+    Malformed = 15,
+    Regs = 16,
+    Stack = 17,
+    Bundle = 18,
 }
 
 impl Refusal {
@@ -55,90 +62,63 @@ impl Refusal {
     pub fn number(self) -> u32
         ensures { result ≡ number self }
     {
-        match self {
-            Refusal::Section => 1,
-            Refusal::NoEntry => 2,
-            Refusal::Corrupt => 3,
-            Refusal::Unsorted => 4,
-            Refusal::Place => 5,
-            Refusal::Truncated => 6,
-            Refusal::Selector => 7,
-            Refusal::Encoding => 8,
-            Refusal::Value => 9,
-            Refusal::Sum => 10,
-            Refusal::NoSite => 11,
-            Refusal::Refused => 12,
-            Refusal::Reserved => 13,
-            Refusal::Unsupported => 14,
-            Refusal::Malformed => 15,
-            Refusal::Regs => 16,
-            Refusal::Stack => 17,
-            Refusal::Bundle => 18,
-        }
+        self as u32
     }
-}
-
-// A test that passed, or why not.
-#[derive(Clone, Copy)]
-pub enum Check {
-    Fine,
-    Fault(Refusal),
 }
 
 // A section of at most `most` bytes, all of it below 2^32.
-fn rule(len: usize, most: usize, at: Addr) -> Check
+#[tactic(auto, unfolding(crate::specs::Rule::rule_of))]
+fn rule(len: usize, most: usize, at: Addr) -> Result<(), Refusal>
     ensures { result ≡ rule_of len most at }
 {
     if most < len {
-        return Check::Fault(Refusal::Section);
+        return Err(Refusal::Section);
     }
     if 0x1_0000_0000 - (at.0 as u64) < len as u64 {
-        return Check::Fault(Refusal::Section);
+        return Err(Refusal::Section);
     }
-    Check::Fine
+    Ok(())
 }
 
 // Whether an index of `len` bytes may stand at `at`: it is made of entries of 8 bytes.
-pub fn index_rule(len: usize, at: Addr) -> Check
+#[tactic(auto, unfolding(crate::specs::Rule::index_rule))]
+pub fn index_rule(len: usize, at: Addr) -> Result<(), Refusal>
     ensures { result ≡ index_rule len at }
 {
-    match rule(len, INDEX_MOST, at) {
-        Check::Fault(r) => Check::Fault(r),
-        Check::Fine => {
-            if len % 8 == 0 {
-                Check::Fine
-            } else {
-                Check::Fault(Refusal::Section)
-            }
-        }
+    rule(len, INDEX_MOST, at)?;
+    if len % 8 == 0 {
+        Ok(())
+    } else {
+        Err(Refusal::Section)
     }
 }
 
 // Whether a table of `len` bytes may stand at `at`.
-pub fn table_rule(len: usize, at: Addr) -> Check
+pub fn table_rule(len: usize, at: Addr) -> Result<(), Refusal>
     ensures { result ≡ table_rule len at }
 {
     rule(len, TABLE_MOST, at)
 }
 
 // Whether a stack of `len` bytes may stand at `at`.
-pub fn stack_rule(len: usize, at: Addr) -> Check
+pub fn stack_rule(len: usize, at: Addr) -> Result<(), Refusal>
     ensures { result ≡ stack_rule len at }
 {
     rule(len, STACK_MOST, at)
 }
 
 // Whether `len` bytes are instruction words.
-pub fn words_rule(len: usize) -> Check
+#[tactic(auto, unfolding(crate::specs::Rule::words_rule))]
+pub fn words_rule(len: usize) -> Result<(), Refusal>
     ensures { result ≡ words_rule len }
 {
     if WORDS_MOST < len {
-        return Check::Fault(Refusal::Section);
+        return Err(Refusal::Section);
     }
     if len % 4 == 0 {
-        Check::Fine
+        Ok(())
     } else {
-        Check::Fault(Refusal::Section)
+        Err(Refusal::Section)
     }
 }
 
@@ -146,66 +126,40 @@ pub fn words_rule(len: usize) -> Check
 pub fn address_of(section: Addr, at: Off) -> Addr
     ensures { result ≡ address_of section at }
 {
-    Addr(std::num::wrapping_add_u32(section.0, at.0))
+    Addr(section.0.wrapping_add(at.0))
 }
 
-// Where an address stands in a section.
-#[derive(Clone, Copy)]
-pub enum Place {
-    At(Off),
-    Outside,
-}
-
-// The offset of an address in a section of `len` bytes: the one way from an address to an offset.
-pub fn offset_of(section: Addr, len: usize, a: Addr) -> Place
+// The offset of an address in a section of `len` bytes, where it has one: the one way from an address to an offset.
+#[tactic(auto, unfolding(crate::specs::Place::offset_of))]
+pub fn offset_of(section: Addr, len: usize, a: Addr) -> Option<Off>
     ensures { result ≡ offset_of section len a }
 {
-    if a.0 < section.0 {
-        return Place::Outside;
-    }
-    let o = a.0 - section.0;
+    let o = a.0.checked_sub(section.0)?;
     if (o as usize) < len {
-        Place::At(Off(o))
+        Some(Off(o))
     } else {
-        Place::Outside
+        None
     }
 }
 
 // The target of a word that stands at `place`: the low 31 bits are two's complement.
+#[tactic(auto, using(crate::proofs::Places::prel31_raised))]
 pub fn prel31(word: u32, place: Addr) -> Addr
     ensures { result ≡ prel31_of word place }
 {
     // Raised by 2^30 and lowered again, what was at 2^30 or above is negative.
     let raised = (word % 0x8000_0000 + 0x4000_0000) % 0x8000_0000;
-    let distance = std::num::wrapping_sub_u32(raised, 0x4000_0000);
-    Addr(std::num::wrapping_add_u32(place.0, distance))
+    let distance = raised.wrapping_sub(0x4000_0000);
+    Addr(place.0.wrapping_add(distance))
 }
 
-// An address that is moved up, or that it passes 0xFFFFFFFF.
-#[derive(Clone, Copy)]
-pub enum Summed {
-    At(Addr),
-    Over,
-}
-
-// The address `by` bytes up, without wrapping.
+// The address `by` bytes up, where that is at most 0xFFFFFFFF.
 #[tactic(auto, using(crate::proofs::Places::plus_in, crate::proofs::Places::plus_over))]
-pub fn plus(a: Addr, by: u32) -> Summed
+pub fn plus(a: Addr, by: u32) -> Option<Addr>
     ensures { result ≡ plus_of a by }
 {
-    let sum = a.0 as u64 + by as u64;
-    if sum <= 0xFFFF_FFFF {
-        Summed::At(Addr(sum as u32))
-    } else {
-        Summed::Over
-    }
-}
-
-// What stands at an offset.
-#[derive(Clone, Copy)]
-pub enum Word {
-    At(u32),
-    Short,
+    let sum = a.0.checked_add(by)?;
+    Some(Addr(sum))
 }
 
 // A byte as a wide number, so that a sum of its multiples has room.
@@ -219,49 +173,45 @@ pub fn wide(x: u8) -> u64
 fn from_le(a: u8, b: u8, c: u8, d: u8) -> u32
     ensures { result ≡ le32 a b c d }
 {
-    (a as u32) + 0x100 * (b as u32) + 0x1_0000 * (c as u32) + 0x100_0000 * (d as u32)
+    u32::from_le_bytes([a, b, c, d])
 }
 
-// The word at an offset, or that it runs past the end.
-pub fn word_at(s: &[u8], at: Off) -> Word
+// The word at an offset, where it does not run past the end.
+pub fn word_at(s: &[u8], at: Off) -> Option<u32>
     ensures { result ≡ word_at s.now at.0 }
 {
     let o = at.0 as usize;
     if o + 4 <= s.len() {
-        Word::At(from_le(s[o], s[o + 1], s[o + 2], s[o + 3]))
+        Some(from_le(s[o], s[o + 1], s[o + 2], s[o + 3]))
     } else {
-        Word::Short
+        None
     }
 }
 
-// The word at an offset, for a caller that knows it to be there: 0 where it runs past the end.
+// The word at an offset, for a caller that knows it to be there: 0 where it runs past the end, as it is promised; `word_at` has the Option.
+#[tactic(auto, using(crate::proofs::Words::word_or))]
 pub fn word_or_zero(s: &[u8], at: Off) -> u32
     ensures { result ≡ word_or_zero s.now at.0 }
 {
-    match word_at(s, at) {
-        Word::At(w) => w,
-        Word::Short => 0,
-    }
+    word_at(s, at).unwrap_or(0)
 }
 
-// The n bytes of `s` from a on; where they are not all there, the empty part at its start.
+// The n bytes of `s` from a on; where they are not all there, the empty part at its start. No Option: a refusal's part is promised to stand there.
+#[tactic(auto, using(crate::proofs::Views::spot_in, crate::proofs::Views::spot_out, crate::proofs::Views::view_made))]
 pub fn part<'a>(s: &'a [u8], a: usize, n: usize) -> &'a [u8]
     ensures { Part s.entry result (part_from (length s.now) a n) }
 {
-    if a <= s.len() {
-        if n <= s.len() - a {
-            &s[a..a + n]
-        } else {
-            &s[0..0]
-        }
+    if a <= s.len() && n <= s.len() - a {
+        &s[a..a + n]
     } else {
-        &s[0..0]
+        &s[..0]
     }
 }
 
-// All of `s` from a on; where a is past its end, the empty part at its start.
+// All of `s` from a on; where a is past its end, the empty part at its start, as of `part`.
+#[tactic(auto, using(crate::proofs::Views::suffix_in, crate::proofs::Views::suffix_out, crate::proofs::Views::view_made))]
 pub fn suffix<'a>(s: &'a [u8], a: usize) -> &'a [u8]
     ensures { Part s.entry result (suffix_from (length s.now) a) }
 {
-    if a <= s.len() { &s[a..] } else { &s[0..0] }
+    if a <= s.len() { &s[a..] } else { &s[..0] }
 }

@@ -1,47 +1,34 @@
 // The words of the lent stack.
-ghost use Rattle.std.specs.Prelude.{◌≡◌, ◌≤◌, length};
-ghost use Rattle.section.specs.Rule.{stack_most};
+ghost use Rattle.std.specs.Prelude.{◌≡◌};
 ghost use Rattle.step.specs.Stack.{stack_word, double_at, stack_double};
 
-use section::{Addr, Off, Place, Word};
-
-#[derive(Clone, Copy)]
-pub(crate) enum Double {
-    At(u64),
-    Short,
-}
+use section::{Addr, Off, Section};
 
 // The word at sp.
-pub(crate) fn word(stack: &[u8], stack_address: Addr, sp: u32) -> Word
-    ensures { result ≡ stack_word stack.now stack_address sp }
+#[tactic(auto, unfolding(crate::specs::Stack::stack_word))]
+pub(crate) fn word(stack: Section, sp: u32) -> Option<u32>
+    ensures { result ≡ stack_word stack.entry.bytes.now stack.entry.at sp }
 {
-    match section::offset_of(stack_address, stack.len(), Addr(sp)) {
-        Place::At(o) => section::word_at(stack, o),
-        Place::Outside => Word::Short,
-    }
+    let o = section::offset_of(stack.at, stack.bytes.len(), Addr(sp))?;
+    section::word_at(stack.bytes, o)
 }
 
-// Two words, the low one first.
-fn double_at(stack: &[u8], at: Off) -> Double
-    requires { length stack.now ≤ stack_most }
+// Two words, the low one first. The high one is read from what follows the low one, so that no sum of offsets has to fit.
+#[tactic(auto, using(section::proofs::Words::word_here, crate::proofs::Words::double_both, crate::proofs::Words::double_low, crate::proofs::Words::double_high))]
+fn double_at(stack: &[u8], at: Off) -> Option<u64>
     ensures { result ≡ double_at stack.now at.0 }
 {
-    match section::word_at(stack, at) {
-        Word::At(low) => match section::word_at(stack, Off(at.0 + 4)) {
-            Word::At(high) => Double::At(low as u64 + 0x1_0000_0000 * high as u64),
-            Word::Short => Double::Short,
-        },
-        Word::Short => Double::Short,
-    }
+    let low = section::word_at(stack, at)?;
+    let rest = &stack[at.0 as usize + 4..];
+    let high = section::word_at(rest, Off(0))?;
+    Some(low as u64 + 0x1_0000_0000 * high as u64)
 }
 
 // The double word at sp.
-pub(crate) fn double_word(stack: &[u8], stack_address: Addr, sp: u32) -> Double
-    requires { length stack.now ≤ stack_most }
-    ensures { result ≡ stack_double stack.now stack_address sp }
+#[tactic(auto, unfolding(crate::specs::Stack::stack_double))]
+pub(crate) fn double_word(stack: Section, sp: u32) -> Option<u64>
+    ensures { result ≡ stack_double stack.entry.bytes.now stack.entry.at sp }
 {
-    match section::offset_of(stack_address, stack.len(), Addr(sp)) {
-        Place::At(o) => double_at(stack, o),
-        Place::Outside => Double::Short,
-    }
+    let o = section::offset_of(stack.at, stack.bytes.len(), Addr(sp))?;
+    double_at(stack.bytes, o)
 }

@@ -1,30 +1,19 @@
--- `instruction::audit_instructions` meets its contract. The loop's invariant: the audit from here is the audit that the contract asks. Assumes nothing.
-use mathlib.Core.Path.{sym, ◌∙◌}
-use native.Mathlib.Omega.{arith}
-use Rattle.instruction.proofs.Program.{audit_over, audit_from_lem, audit_told, audit_end, audit_refused, audit_fault, audit_last, audit_next}
-use Rattle.instruction.proofs.Laws.{decode_inside}
+-- A fault ends the audit, and the next turn is the same audit. Assumes nothing.
+use Rattle.std.proofs.Common.{◌≡◌, sym, ap, ◌∙◌, rules, Ok, Err}
+use Rattle.instruction.proofs.Program.{audit_told, audit_refused, audit_fault, audit_next}
 use Rattle.instruction.proofs.audit_instructions.Goals as goal
 
-pub returns-then-skip-gt2 : goal.returns-then-skip-gt2
-returns-then-skip-gt2 c = let both = audit_told _ _ _ (sym (audit_over _ _ (omega arith))) in record { answer = both.0; exact = both.1 }
+pub returns-in_err-i : goal.returns-in_err-i
+returns-in_err-i c =
+    let e : c.from_residual.result ≡ Err c.in_err-i.field-0.0 = search rules in
+    let t = audit_told _ _ _ (e ∙ sym (audit_refused _ _ _ (sym c.in_err-i.ensures)) ∙ c.loop-i.invariant) in
+    record { answer = t.0; exact = t.1 }
 
-pub loop-r-init : goal.loop-r-init
-loop-r-init c = sym (audit_from_lem _ _ (omega arith))
+pub returns-in_err-fault : goal.returns-in_err-fault
+returns-in_err-fault c =
+    let e : c.from_residual-in_err-fault.result ≡ Err c.in_err-fault.field-0.0 = search rules in
+    let t = audit_told _ _ _ (e ∙ sym (audit_fault _ _ _ _ (sym c.in_ok-i.ensures ∙ ap Ok c.in-Some.is) _ (sym c.in_err-fault.ensures)) ∙ c.loop-i.invariant) in
+    record { answer = t.0; exact = t.1 }
 
-pub returns-in-End : goal.returns-in-End
-returns-in-End c = let both = audit_told _ _ _ (sym (audit_end _ _ (sym c.decode.ensures ∙ c.in-End.is)) ∙ c.loop-r.invariant) in record { answer = both.0; exact = both.1 }
-
-pub returns-in-Refused : goal.returns-in-Refused
-returns-in-Refused c = let both = audit_told _ _ _ (sym (audit_refused _ _ _ (sym c.decode.ensures ∙ c.in-Refused.is)) ∙ c.loop-r.invariant) in record { answer = both.0; exact = both.1 }
-
-pub returns-in-Fault : goal.returns-in-Fault
-returns-in-Fault c = let both = audit_told _ _ _ (sym (audit_fault _ _ _ _ (sym c.decode.ensures ∙ c.in-Step.is) _ (sym c.fault.ensures ∙ c.in-Fault.is)) ∙ c.loop-r.invariant) in record { answer = both.0; exact = both.1 }
-
-pub returns-then-ends : goal.returns-then-ends
-returns-then-ends c = let both = audit_told _ _ _ (sym (audit_last _ _ _ _ (sym c.decode.ensures ∙ c.in-Step.is) (sym c.ends.ensures ∙ c.if-ends.true) (sym c.fault.ensures ∙ c.in-Fine.is)) ∙ c.loop-r.invariant) in record { answer = both.0; exact = both.1 }
-
-pub loop-r-smaller : goal.loop-r-smaller
-loop-r-smaller c = let h = decode_inside _ _ _ _ (sym c.decode.ensures ∙ c.in-Step.is) in omega arith
-
-pub loop-r-preserved : goal.loop-r-preserved
-loop-r-preserved c = sym (audit_next _ _ _ _ (sym c.decode.ensures ∙ c.in-Step.is) (sym c.ends.ensures ∙ c.if-ends.false) (sym c.fault.ensures ∙ c.in-Fine.is)) ∙ c.loop-r.invariant
+pub loop-i-preserved : goal.loop-i-preserved
+loop-i-preserved c = sym (audit_next _ _ _ _ (sym c.in_ok-i.ensures ∙ ap Ok c.in-Some.is) (sym c.if-ends.ensures) (sym c.in_ok-fault.ensures)) ∙ c.loop-i.invariant

@@ -1,14 +1,7 @@
--- `instruction::ranges::pop_run` meets its contract: each of the sixteen masks is what the definition computes at its place. Assumes nothing.
-use Prim.Native.Nat.{ℕ, ◌%◌}
-use mathlib.Core.Bool.{Bool}
-use mathlib.Core.List.{List, [], ◌∷◌}
-use mathlib.Core.Path.{ap}
-use lib.ListN.{get_or}
-use lib.Dec.{eqb, eqb→eq}
-use borrow.Author.Rules.{rules}
-use Rattle.instruction.specs.Decode.{pop_run, run_mask}
+-- Each of the sixteen masks is what the definition computes at its place. Assumes nothing.
+use Rattle.std.proofs.Common.{ℕ, ◌%◌, Bool, List, [], ◌∷◌, ap, eqb, eqb→eq, slice_index_or, rules}
+use Rattle.instruction.specs.Decode.{step, pop_run, run_mask}
 use Rattle.instruction.specs.declared.Instruction.{Instruction}
-use Rattle.instruction.specs.declared.Decoded.{Decoded}
 use Rattle.instruction.proofs.Table.{at}
 use Rattle.instruction.proofs.ranges.pop_run.Goals as goal
 
@@ -20,4 +13,4 @@ right k x = eqb x (run_mask k)
 
 pub returns : goal.returns
 unfolding pop_run runs right
-returns c = ap (λ (m : ℕ). Decoded.Step (Instruction.RegPop m) c.args.next) (eqb→eq (get_or runs (c.args.b % 16) 0) (run_mask (c.args.b % 16)) (at right runs tt (c.args.b % 16) (search rules)))
+returns c = ap (λ (m : ℕ). step (Instruction.RegPop m) c.args.next) (eqb→eq (slice_index_or runs (c.args.b % 16) 0) (run_mask (c.args.b % 16)) (at right runs tt (c.args.b % 16) (search rules)))

@@ -1,19 +1,14 @@
--- `instruction::uleb::pop_long` meets its contract. The loop's invariant: `value` and `scale` are those of the k digits passed, and where the ULEB
--- ends is still to be seen in the 5 - k bytes after them. Assumes nothing.
-use Prim.Native.Nat.{ℕ, ◌+◌, ◌%◌}
-use mathlib.Core.Path.{refl, sym, ap, ◌∙◌}
-use native.Mathlib.Omega.{arith}
-use lib.Dec.{lit<}
-use borrow.Author.Rules.{rules}
+-- The loop's turn: a digit more, and how the ULEB ends is seen after it. Assumes nothing.
+use Rattle.std.proofs.Common.{ℕ, ◌+◌, ◌%◌, refl, sym, ap, ◌∙◌, arith, lit<, rules}
 use Rattle.section.proofs.Digits.{Grown, grow}
 use Rattle.section.proofs.Ends.{at_first, at_long, at_early, at_last, at_more}
 use Rattle.instruction.specs.Decode.{bytes_from}
 use Rattle.instruction.proofs.Laws.{long_by, long_after}
 use Rattle.instruction.proofs.uleb.pop_long.Goals as goal
-use Rattle.instruction.proofs.uleb.pop_long.Goals.{After-wide-byte}
+use Rattle.instruction.proofs.uleb.pop_long.Goals.{After-wide-byte, else-loop-k-test, then-loop-k-test+then-at-k}
 
 -- the turn's new number and scale
-grown : (c : After-wide-byte) → Grown 128 5 (bytes_from c.args.words.now c.args.next) c.loop-k.k c.loop-k.value c.loop-k.scale (c.wide-byte.result % 128)
+grown : (c : After-wide-byte) → Grown 128 5 (bytes_from c.args.at.words.now c.args.at.next) c.loop-k.k c.loop-k.value c.loop-k.scale (c.wide-byte.result % 128)
 grown c =
     grow 128 5 (lit< tt) _ (omega arith) c.loop-k.invariant.2 c.loop-k.invariant.1 (ap (λ (n : ℕ). n % 128) (c.wide-byte.ensures ∙ c.byte.ensures))
 
@@ -33,14 +28,14 @@ pub loop-k-preserved : goal.loop-k-preserved
 loop-k-preserved c = let g = grown ((goal.at.loop-k-preserved c).After-wide-byte) in
     (omega arith, g.scale_next, g.next, c.loop-k.invariant.3 ∙ at_more _ _ _ (omega arith) (omega arith) (omega arith))
 
-pub returns-then-k-ge5 : goal.returns-then-k-ge5
-returns-then-k-ge5 c = c.error_at.ensures ∙ sym (long_by _ _ _ (c.loop-k.invariant.3 ∙ at_long _ _ _ (omega arith)))
-
-pub returns-then-words-next : goal.returns-then-words-next
-returns-then-words-next c = c.error_at-then-words-next.ensures ∙ sym (long_by _ _ _ (c.loop-k.invariant.3 ∙ at_early _ _ _ (omega arith) (omega arith)))
+pub returns : goal.returns
+returns c = c.error_at.ensures ∙ elim c.loop-k-test.branch [
+  | else-loop-k-test w ↦ sym (long_by _ _ _ (c.loop-k.invariant.3 ∙ at_long _ _ _ (omega arith)))
+  | then-loop-k-test+then-at-k w ↦ sym (long_by _ _ _ (c.loop-k.invariant.3 ∙ at_early _ _ _ (omega arith) (omega arith)))
+]
 
 pub returns-then-byte-lt128 : goal.returns-then-byte-lt128
 returns-then-byte-lt128 c = let g = grown ((goal.at.returns-then-byte-lt128 c).After-wide-byte) in
     c.long.ensures
-    ∙ long_after c.args.words.now c.args.next (c.loop-k.k + 1) (omega arith) g.next
+    ∙ long_after c.args.at.words.now c.args.at.next (c.loop-k.k + 1) (omega arith) g.next
     ∙ sym (long_by _ _ _ (c.loop-k.invariant.3 ∙ at_last _ _ _ (omega arith) (omega arith) (omega arith)))

@@ -1,27 +1,24 @@
--- `lsda::sites::all_fit` is right: as long as the loop goes on, every site passed fits, so the first fault is that of the sites from `at` on. Assumes nothing.
-use mathlib.Core.Path.{refl, sym, ap, ◌∙◌}
-use native.Mathlib.Omega.{arith}
-use Rattle.section.proofs.Walks.{checked_end, checked_stop, checked_more}
+-- A site that can't be read or does not fit ends the audit, and the next turn is the same audit. Assumes nothing.
+use Rattle.std.proofs.Common.{◌≡◌, Ok, Err, sym, ap, ◌∙◌, rules}
 use Rattle.section.specs.Walk.{checked}
+use Rattle.section.proofs.Walks.{checked_stop, checked_more}
 use Rattle.lsda.specs.Site.{fits_of}
-use Rattle.lsda.proofs.Turns.{sites_done, sites_refused, sites_more, site_inside}
 use Rattle.lsda.proofs.Sums.{settled_fits, settled_fault}
+use Rattle.lsda.proofs.Turns.{sites_refused, sites_more}
 use Rattle.lsda.proofs.sites.all_fit.Goals as goal
 
-pub loop-r-init : goal.loop-r-init
-loop-r-init c = refl
+pub returns-in_err-site : goal.returns-in_err-site
+returns-in_err-site c =
+    let e : c.from_residual.result ≡ Err c.in_err-site.field-0.0 = search rules in
+    e ∙ sym (c.loop-site.invariant ∙ ap (checked (fits_of _)) (sites_refused _ _ _ _ (sym c.in_err-site.ensures)) ∙ checked_stop (fits_of _) _)
 
-pub loop-r-smaller : goal.loop-r-smaller
-loop-r-smaller c = let k = site_inside _ _ _ _ _ (sym c.site_at.ensures ∙ c.in-Is.is) in omega arith
+pub returns-in_err-settled : goal.returns-in_err-settled
+returns-in_err-settled c =
+    let e : c.from_residual-in_err-settled.result ≡ Err c.in_err-settled.field-0.0 = search rules in
+    let more = ap (checked (fits_of _)) (sites_more _ _ _ _ _ (sym c.in_ok-site.ensures ∙ ap Ok c.in-Some.is)) ∙ checked_more (fits_of _) _ _ in
+    e ∙ sym (c.loop-site.invariant ∙ more ∙ rw (settled_fault _ _ _ (sym c.in_err-settled.ensures)))
 
-pub loop-r-preserved : goal.loop-r-preserved
-loop-r-preserved c = c.loop-r.invariant ∙ ap (checked (fits_of _)) (sites_more _ _ _ _ _ (sym c.site_at.ensures ∙ c.in-Is.is)) ∙ checked_more (fits_of _) _ _ ∙ rw (settled_fits _ _ _ (sym c.settled.ensures ∙ c.in-Is-settled.is))
-
-pub returns-in-Done : goal.returns-in-Done
-returns-in-Done c = sym (c.loop-r.invariant ∙ ap (checked (fits_of _)) (sites_done _ _ _ (sym c.site_at.ensures ∙ c.in-Done.is)) ∙ checked_end (fits_of _))
-
-pub returns-in-Refused : goal.returns-in-Refused
-returns-in-Refused c = sym (c.loop-r.invariant ∙ ap (checked (fits_of _)) (sites_refused _ _ _ _ (sym c.site_at.ensures ∙ c.in-Refused.is)) ∙ checked_stop (fits_of _) _)
-
-pub returns-in-Refused-settled : goal.returns-in-Refused-settled
-returns-in-Refused-settled c = sym (c.loop-r.invariant ∙ ap (checked (fits_of _)) (sites_more _ _ _ _ _ (sym c.site_at.ensures ∙ c.in-Is.is)) ∙ checked_more (fits_of _) _ _ ∙ rw (settled_fault _ _ _ (sym c.settled.ensures ∙ c.in-Refused-settled.is)))
+pub loop-site-preserved : goal.loop-site-preserved
+loop-site-preserved c =
+    let more = ap (checked (fits_of _)) (sites_more _ _ _ _ _ (sym c.in_ok-site.ensures ∙ ap Ok c.in-Some.is)) ∙ checked_more (fits_of _) _ _ in
+    c.loop-site.invariant ∙ more ∙ rw (settled_fits _ _ _ (sym c.in_ok-settled.ensures))

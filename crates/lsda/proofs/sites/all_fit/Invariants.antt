@@ -5,8 +5,8 @@ use lib.ListN.{length}
 use Rattle.lsda.specs.Sites.{audit_from}
 use Rattle.lsda.proofs.sites.all_fit.Given as goal
 
-abbrev pub invariant-loop-r : goal.invariant-loop-r
-invariant-loop-r l = audit_from l.data l.header l.header.start.0 ≡ audit_from l.data l.header l.at.0
+abbrev pub invariant-loop-site : goal.invariant-loop-site
+invariant-loop-site l = audit_from l.data l.header l.header.start.0 ≡ audit_from l.data l.header l.at.0
 
-abbrev pub decreases-loop-r : goal.decreases-loop-r
-decreases-loop-r l = length l.data - l.at.0
+abbrev pub decreases-loop-site : goal.decreases-loop-site
+decreases-loop-site l = length l.data - l.at.0

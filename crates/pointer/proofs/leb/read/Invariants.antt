@@ -1,8 +1,6 @@
--- `pointer::leb::read` is right: as long as the loop goes on, `value` and `scale` are those of the k digits passed, and where the LEB ends is still
--- to be seen in the 5 - k bytes after them. Assumes nothing.
-use Prim.Native.Nat.{◌-◌, ◌^◌, ◌≤◌}
-use mathlib.Core.Path.{◌≡◌}
-use lib.ListN.{length}
+-- As long as the loop goes on, `value` and `scale` are those of the k digits passed, and where the LEB ends is still to be seen in the 5 - k bytes
+-- after them. Assumes nothing.
+use Rattle.std.proofs.Common.{◌≡◌, ◌-◌, ◌^◌, length}
 use Rattle.section.specs.Digits.{bytes_at, digits, end_of, end_from}
 use Rattle.pointer.proofs.leb.read.Given as goal
 
@@ -10,7 +8,4 @@ abbrev pub invariant-loop-k : goal.invariant-loop-k
 invariant-loop-k l =
     let f = bytes_at l.data l.from in
     let n = length l.data - l.from in
-    (l.k ≤ 5) × (l.scale ≡ 128 ^ l.k) × (l.value ≡ digits 128 f l.k) × (end_of f n ≡ end_from f n (5 - l.k) l.k)
-
-abbrev pub decreases-loop-k : goal.decreases-loop-k
-decreases-loop-k l = 5 - l.k
+    (l.scale ≡ 128 ^ l.k) × (l.value ≡ digits 128 f l.k) × (end_of f n ≡ end_from f n (5 - l.k) l.k)

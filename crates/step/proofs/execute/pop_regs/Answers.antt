@@ -1,28 +1,20 @@
--- `step::execute::pop_regs` meets its contract. The loop's invariant: what is left to pop, from here with the registers that are left, is what the definition asks. Assumes nothing.
-use Rattle.std.proofs.Common.{◌+◌, ◌-◌, sym, refl, ◌∙◌, arith, rules}
-use Rattle.step.proofs.Pops.{next_bit, pop_skip, pop_load, pop_out, pop_done, regs_out, regs_loaded, regs_risen}
+-- A turn takes the word at sp where the register's bit is set; and at the end 13 takes sp where its bit is not. Assumes nothing.
+use Rattle.std.proofs.Common.{◌∙◌, arith}
+use Rattle.step.proofs.Pops.{pop_skip, pop_load, pop_done, regs_loaded, regs_risen}
 use Rattle.step.proofs.execute.pop_regs.Goals as goal
-
-pub loop-j-init : goal.loop-j-init
-loop-j-init c = (search rules, omega arith, refl)
-
-pub loop-j-preserved-in-At : goal.loop-j-preserved-in-At
-loop-j-preserved-in-At c = let is = sym c.word.ensures ∙ c.in-At.is in (
-  omega arith,
-  next_bit _ _ c.loop-j.invariant.1,
-  rw c.wrapping_add_u32-sp.ensures.value
-      (sym (pop_load (16 - c.loop-j.j) (16 - (c.loop-j.j + 1)) _ _ _ _ _ _ c.loop-j.m (omega arith) c.loop-j.invariant.1 _ c.if-m-eq1.true is) ∙ c.loop-j.invariant.2),
-)
-
-pub returns-in-Short : goal.returns-in-Short
-returns-in-Short c = λ vfp.
-    regs_out _ _ _ _ (sym c.loop-j.invariant.2 ∙ pop_out (16 - c.loop-j.j) (16 - (c.loop-j.j + 1)) _ _ _ _ _ _ c.loop-j.m (omega arith) c.loop-j.invariant.1 c.if-m-eq1.true (sym c.word.ensures ∙ c.in-Short.is))
+use Rattle.step.proofs.execute.pop_regs.Goals.{then-mask-j-eq1+in_ok-core, else-mask-j-eq1, then-mask-eq0, else-mask-eq0}
 
 pub loop-j-preserved : goal.loop-j-preserved
-loop-j-preserved c = (omega arith, next_bit _ _ c.loop-j.invariant.1, sym (pop_skip (16 - c.loop-j.j) (16 - (c.loop-j.j + 1)) _ _ _ _ _ _ c.loop-j.m (omega arith) c.loop-j.invariant.1 c.if-m-eq1.false) ∙ c.loop-j.invariant.2)
-
-pub returns-then-mask-eq1 : goal.returns-then-mask-eq1
-returns-then-mask-eq1 c = λ vfp. regs_loaded _ _ _ _ _ _ (sym c.loop-j.invariant.2 ∙ pop_done _ _ _ _ _ _ (omega arith)) (omega arith)
+loop-j-preserved c = (
+  omega arith,
+  c.loop-j.invariant.1 ∙ elim c.if-mask-j-eq1.branch [
+    | then-mask-j-eq1+in_ok-core w ↦ rw (w.core-is, w.sp-is) (grind (arith, pop_load))
+    | else-mask-j-eq1 w ↦ rw (w.core-is, w.sp-is) (pop_skip _ _ _ _ _ _ c.loop-j-test.true w.if-mask-j-eq1.false)
+  ],
+)
 
 pub returns : goal.returns
-returns c = λ vfp. regs_risen _ _ _ _ _ _ (sym c.loop-j.invariant.2 ∙ pop_done _ _ _ _ _ _ (omega arith)) (λ h. omega arith)
+returns c = λ vfp. elim c.if-mask-eq0.branch [
+  | then-mask-eq0 w ↦ rw w.core-is (regs_risen _ _ _ _ _ _ (c.loop-j.invariant.1 ∙ pop_done _ _ _ _ _ _ c.loop-j-test.false) (λ h. omega arith))
+  | else-mask-eq0 w ↦ rw w.core-is (regs_loaded _ _ _ _ _ _ (c.loop-j.invariant.1 ∙ pop_done _ _ _ _ _ _ c.loop-j-test.false) (omega arith))
+]

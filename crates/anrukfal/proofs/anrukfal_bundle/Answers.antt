@@ -1,9 +1,0 @@
--- Each arm writes the row that the answer's definition gives. Assumes nothing.
-use mathlib.Core.Path.{refl, sym, ◌∙◌}
-use Rattle.anrukfal.proofs.anrukfal_bundle.Goals as goal
-
-pub returns-in-Is : goal.returns-in-Is
-returns-in-Is c = rw (sym c.read_bundle.ensures ∙ c.in-Is.is) (record { number = refl; row = refl })
-
-pub returns-in-Refused : goal.returns-in-Refused
-returns-in-Refused c = rw (sym c.read_bundle.ensures ∙ c.in-Refused.is) (record { number = c.number.ensures; row = refl })

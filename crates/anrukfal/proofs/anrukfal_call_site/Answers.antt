@@ -1,9 +1,0 @@
--- Each arm writes the row that the answer's definition gives. Assumes nothing.
-use mathlib.Core.Path.{refl, sym, ◌∙◌}
-use Rattle.anrukfal.proofs.anrukfal_call_site.Goals as goal
-
-pub returns-in-Is : goal.returns-in-Is
-returns-in-Is c = rw (sym c.call_site.ensures ∙ c.in-Is.is) (record { number = refl; row = c.site_row.ensures })
-
-pub returns-in-Refused : goal.returns-in-Refused
-returns-in-Refused c = rw (sym c.call_site.ensures ∙ c.in-Refused.is) (record { number = c.number.ensures; row = refl })

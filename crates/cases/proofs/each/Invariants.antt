@@ -1,6 +1,0 @@
--- Each line ends after its begin. The measure is what is left of the text.
-use Rattle.std.proofs.Common.{length, ◌-◌}
-use Rattle.cases.proofs.each.Given as goal
-
-abbrev pub decreases-loop-at : goal.decreases-loop-at
-decreases-loop-at l = length l.text - l.at
