@@ -5,7 +5,7 @@ use mathlib.Core.Logic.{◌↔◌}
 use native.Mathlib.Omega.{arith}
 use lib.Dec.{leb, eqb}
 use borrow.Author.Tests.{eqb-true, eqb-false}
-use Rattle.std.proofs.Common.{Ok, Err, sym, ◌∙◌}
+use Rattle.std.proofs.Common.{Ok, Err}
 use Rattle.std.specs.Result.{result_and}
 use Rattle.section.specs.Check.{Answered, Check, fine, need, and_then, on_answer}
 use Rattle.section.specs.declared.Addr.{Addr}
@@ -108,7 +108,3 @@ audit_exact i = (
       record { sections = s; entries = λ k l. (entry_exact i s k l).0 (first_all (entry_check i) (count_of i) 0 h.1 k (omega arith) (omega arith)) },
   λ s. rw ((sections_exact i).1 s.sections) (all_first (entry_check i) (count_of i) 0 (λ k a b. let l : k < count_of i = omega arith in (entry_exact i s.sections k l).1 (s.entries k l))),
 )
-
--- so an answer of the audit says it
-pub audit_told : (i : Image) (r : Verdict) → r ≡ audit_of i → (r ≡ passed) ↔ Sound i
-audit_told i r e = (λ p. (audit_exact i).0 (sym e ∙ p), λ s. e ∙ (audit_exact i).1 s)

@@ -1,5 +1,5 @@
 -- How the audit goes on: one law for each way through what an entry leads to, and for each turn of the loop over the entries. Assumes nothing.
-use Rattle.std.proofs.Common.{arith, ◌≡◌, ℕ, suc, ◌+◌, List, refl, sym, ap, ◌∙◌, add-one, Ok, Err, leb}
+use Rattle.std.proofs.Common.{arith, ◌≡◌, ℕ, suc, ◌+◌, List, refl, sym, ap, ◌∙◌, add-one, Ok, Err, leb, Option}
 use Rattle.std.specs.Result.{result_and}
 use Rattle.section.specs.Check.{Answered, Check, fine, need, and_then}
 use Rattle.section.specs.declared.Addr.{Addr}
@@ -14,7 +14,8 @@ use Rattle.image.specs.Image.{Image, count_of, sections_of, entry_at, led_by}
 use Rattle.entry.specs.Parts.{held_words, language_in}
 use Rattle.image.specs.declared.Found.{Found}
 use Rattle.image.proofs.Laws.{entry_is_led}
-use Rattle.audit.specs.Audit.{Verdict, passed, at_fault, words_check, found_check, floor_of, entry_check, first_fault, audit_of, floored}
+use Rattle.audit.specs.Audit.{passed, at_fault, words_check, found_check, floor_of, entry_check, first_fault, verdict_of, audit_of, floored}
+use Rattle.audit.specs.declared.Fault.{Fault}
 
 -- ---- what an entry leads to: x is the audit of its words, y of its language data
 module _ (xs ys : List ℕ) (s : Span) {w : List ℕ} (words : w ≡ held_words xs ys s) {x : Check} (told : x ≡ audit_instructions_of w s.skip) where
@@ -105,6 +106,7 @@ module _ (i : Image) where
   unfolding audit_of
   audit_sections r e = rw e
 
-  pub audit_entries : sections_of i ≡ fine → (x : Verdict) → x ≡ first_fault (entry_check i) (count_of i) 0 → x ≡ audit_of i
+  -- by the first fault of the entries that was reported
+  pub audit_entries : sections_of i ≡ fine → (x : Option Fault) → verdict_of x ≡ first_fault (entry_check i) (count_of i) 0 → {y : Option Fault} → x ≡ y → audit_of i ≡ verdict_of y
   unfolding audit_of
-  audit_entries e x f = rw e f
+  audit_entries e x f g = rw e (sym f ∙ ap verdict_of g)

@@ -1,5 +1,5 @@
 -- The audit: sections, then each entry in order, and the first fault.
-use Rattle.std.specs.Prelude.{ℕ, zero, suc, ◌+◌, List, nat_le, Result, Ok, Err}
+use Rattle.std.specs.Prelude.{ℕ, zero, suc, ◌+◌, List, nat_le, Result, Ok, Err, Option, Some, None}
 use Rattle.std.specs.Result.{result_and}
 use Rattle.section.specs.Check.{Answered, Check, fine, need, and_then, on_answer}
 use Rattle.section.specs.declared.Addr.{Addr}
@@ -55,6 +55,11 @@ unfoldable pub audit_of : Image → Verdict
 audit_of i = on_answer (sections_of i) (λ _. first_fault (entry_check i) (count_of i) 0) (at_fault 0)
 
 -- ---- what code reports
+-- the first fault of the entries, as a verdict
+abbrev pub verdict_of : Option Fault → Verdict
+verdict_of None = passed
+verdict_of (Some f) = Err f
+
 -- the test of an entry with its floor, and its function where it passes
 unfoldable pub floored : Image → ℕ → ℕ → Answered Addr
 floored i k floor =

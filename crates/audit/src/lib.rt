@@ -4,7 +4,7 @@
 ghost use Rattle.std.specs.Prelude.{◌≡◌, ◌↔◌, ◌≤◌, length};
 ghost use Rattle.section.specs.Rule.{index_most};
 ghost use Rattle.image.specs.Image.{seen, count_of};
-ghost use Rattle.audit.specs.Audit.{passed, found_check, floored, entry_check, first_fault, audit_of};
+ghost use Rattle.audit.specs.Audit.{passed, found_check, floored, entry_check, first_fault, verdict_of, audit_of};
 ghost use Rattle.audit.specs.Promise.{Promise};
 ghost use Rattle.audit.specs.Sound.{Sound};
 
@@ -52,11 +52,11 @@ fn check_entry(image: Image, number: u32, floor: u64) -> Result<Addr, Refusal>
     Ok(function)
 }
 
-// Every entry in order.
+// The first fault of the entries in order, if there is one.
 #[tactic(auto, using(crate::proofs::Turns::turn_fault, crate::proofs::Turns::turn_next, crate::proofs::Turns::turn_last, crate::proofs::Turns::floor_first))]
-fn entries(image: Image) -> Result<(), Fault>
+fn entries(image: Image) -> Option<Fault>
     requires { length image.index.bytes.now ≤ index_most }
-    ensures { result ≡ first_fault (entry_check (seen image.entry)) (count_of (seen image.entry)) 0 }
+    ensures { verdict_of result ≡ first_fault (entry_check (seen image.entry)) (count_of (seen image.entry)) 0 }
 {
     let count = (image.index.bytes.len() / 8) as u32;
     let mut floor: u64 = 0;
@@ -65,24 +65,28 @@ fn entries(image: Image) -> Result<(), Fault>
         match check_entry(image, number, floor) {
             Ok(function) => floor = function.0 as u64 + 1,
             Err(refusal) => {
-                return Err(Fault {
+                return Some(Fault {
                     refusal,
                     entry: number,
                 });
             }
         }
     }
-    Ok(())
+    None
 }
 
-// Sections, then every entry in order: the first fault. It passes exactly the sound images, and these keep the promise.
+// Sections, then every entry in order: the first fault. It passes exactly the sound images, and these keep the promise. Each way on is an arm, so that
+// a wrong one is refused at its own clause.
 pub fn audit(image: Image) -> Result<(), Fault>
     ensures demand_three { result ≡ passed → Promise (seen image.entry) }
     ensures passes_exactly { (result ≡ passed) ↔ Sound (seen image.entry) }
     ensures answer { result ≡ audit_of (seen image.entry) }
 {
     match image.sections() {
-        Ok(()) => entries(image),
+        Ok(()) => match entries(image) {
+            None => Ok(()),
+            Some(fault) => Err(fault),
+        },
         Err(refusal) => Err(Fault { refusal, entry: 0 }),
     }
 }

@@ -1,4 +1,4 @@
-// The layout of a bundle, read from its start. Its two addresses are handed on as they are, to be fields of what is read.
+// The layout of a bundle, read from its start. Its two addresses go on side by side: a struct of them would be made once and taken apart once.
 ghost use Rattle.std.specs.Prelude.{◌≡◌, ◌≤◌};
 ghost use Rattle.bundle.specs.Bundle.{count_at, most_entries, most_words, from_entries, from_words, laid_of};
 

@@ -27,7 +27,8 @@ fn step(line: &[u8], index: &[u8], a: u32, table: &[u8], b: u32) {
     show_row(&vfp);
 }
 
-// audit INDEX_ADDRESS INDEX TABLE_ADDRESS TABLE; with more after it lookup .. COUNTER, and frame .. STACK_ADDRESS STACK R0 .. R15
+// audit INDEX_ADDRESS INDEX TABLE_ADDRESS TABLE; with more after it lookup .. COUNTER, and frame .. STACK_ADDRESS STACK R0 .. R15. The letter comes from
+// the text, so it is matched.
 pub(crate) fn answer(name: u8, line: &[u8]) {
     let mut index_room = [0u8; ROOM];
     let mut table_room = [0u8; ROOM];

@@ -29,7 +29,8 @@ pub(crate) fn show(number: u32, row: &[u32]) {
 }
 
 // relative WORD PLACE, pointer ENCODING AT DATA, instruction AT WORDS, entry INDEX_ADDRESS NUMBER INDEX, table TABLE_ADDRESS OFFSET TABLE,
-// callsite FUNCTION COUNTER DATA, search INDEX_ADDRESS COUNTER INDEX, bundle BYTES: the numbers, and the bytes
+// callsite FUNCTION COUNTER DATA, search INDEX_ADDRESS COUNTER INDEX, bundle BYTES: the numbers, and the bytes. The letter comes from the text, so it is
+// matched.
 fn answer(name: u8, a: u32, b: u32, data: &[u8]) {
     let mut two = [1u32; 2];
     let mut four = [1u32; 4];
@@ -74,7 +75,7 @@ fn each(text: &[u8]) {
     }
 }
 
-// The cases of standard input, read by the kit's io for the same reason: into a room, with a count.
+// The cases of standard input. Read by the kit's io too, into a room with a count: std's reader trusts more calls of the system.
 pub fn run() {
     let mut text = [0u8; MOST];
     let n = io::read_full(0, &mut text);
