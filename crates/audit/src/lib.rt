@@ -61,7 +61,6 @@ fn entries(image: Image) -> Option<Fault>
     let count = (image.index.bytes.len() / 8) as u32;
     let mut floor: u64 = 0;
     for number in 0..count {
-        // No `map_err`: with the number lent to a closure the loop's proof did not close.
         match check_entry(image, number, floor) {
             Ok(function) => floor = function.0 as u64 + 1,
             Err(refusal) => {
