@@ -13,9 +13,9 @@ use Rattle.audit_image.specs.Input.{Received, LineOfInput}
 use Rattle.audit_image.specs.declared.line.Line.{Line}
 
 -- the bytes that were read say as much as the whole input does
-pub line_of_bytes : (buffer : List ℕ) (n fill : ℕ) → most_bytes < length buffer → (l : Line) → l.0 ≡ audit_bundle_of (take n buffer) fill → LineOfInput buffer n fill l
+pub line_of_bytes : (buffer : List ℕ) (n fill : ℕ) → most_bytes < length buffer → (l : Line) → written l ≡ line_of (audit_bundle_of (take n buffer) fill) → LineOfInput buffer n fill l
 line_of_bytes buffer n fill room l e input h =
-    ap line_of (e ∙ ap (λ (b : List ℕ). audit_bundle_of b fill) h ∙ audit_same input (length buffer) fill room)
+    e ∙ ap line_of (ap (λ (b : List ℕ). audit_bundle_of b fill) h ∙ audit_same input (length buffer) fill room)
 
 received_itself : (buffer : List ℕ) (n : ℕ) → n ≤ length buffer → Received buffer n (take n buffer)
 received_itself buffer n h = let e = length-take-le n buffer h in sym (take_all (length buffer) (take n buffer) (omega arith))

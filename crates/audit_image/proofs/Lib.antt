@@ -1,1 +1,4 @@
+mod Copy
+mod Decimal
+mod Lines
 mod Inputs

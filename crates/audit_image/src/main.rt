@@ -3,6 +3,7 @@
 #![tactic(auto)]
 
 ghost use Rattle.std.specs.Prelude.{◌≡◌, ◌<◌, ◌≤◌, length};
+ghost use Rattle.io.specs.Counts.{IsPrefixLen};
 ghost use Rattle.bundle.specs.Bundle.{most_bytes};
 ghost use Rattle.audit_image.specs.Input.{LineOfInput, fill_of};
 
@@ -18,16 +19,18 @@ const MOST: usize = 20 + section::INDEX_MOST + section::TABLE_MOST;
 fn audited(buffer: &[u8], n: usize, fill: u32) -> Line
     requires room { most_bytes < length buffer.now }
     requires received { n ≤ length buffer.now }
-    ensures { LineOfInput buffer.now n fill result }
+    ensures line { LineOfInput buffer.now n fill result }
+    ensures length { IsPrefixLen result.len result.bytes }
 {
-    Line(bundle::audit_bundle(&buffer[..n], fill))
+    line::printed(bundle::audit_bundle(&buffer[..n], fill))
 }
 
 // One byte more is read, so that leftovers are seen. The kit's io hands over a buffer and a count; a reader of std would trust one more call of libc.
-fn run(rt: &impl Print, fill: u32) {
+fn run(fill: u32) {
     let mut buffer = [0u8; MOST + 1];
     let n = io::read_full(0, &mut buffer);
-    let _ = print!(rt; "{}", audited(&buffer, n, fill));
+    let line = audited(&buffer, n, fill);
+    io::write_all(1, &line.bytes[..line.len]);
 }
 
 // The fill that an argument says; nothing where it is no digit from 1 to 3.
@@ -60,7 +63,7 @@ fn fill_given(env: &impl Env) -> Option<u32> {
 
 fn main(rt: HostRuntime) {
     match fill_given(&rt) {
-        Some(fill) if !is_given(&rt, 2) => run(&rt, fill),
+        Some(fill) if !is_given(&rt, 2) => run(fill),
         _ => {
             let _ = eprintln!(rt; "usage: audit_image [1 | 2 | 3] < BUNDLE");
         }

@@ -104,6 +104,15 @@ pub fill_exact : (fill len : ℕ) → (fill_rule fill len ≡ fine) ↔ ((fill �
 unfolding fill_rule
 fill_exact fill len = and_exact _ _ (need_le fill 3 Refusal.Bundle) (need_le fill len Refusal.Bundle)
 
+-- what it refuses
+pub fill_many : (fill len : ℕ) → 3 < fill → fill_rule fill len ≡ Err Refusal.Bundle
+unfolding fill_rule
+fill_many fill len h = rw (lt-leb fill 3 h)
+
+pub fill_over : (fill len : ℕ) → fill ≤ 3 → len < fill → fill_rule fill len ≡ Err Refusal.Bundle
+unfolding fill_rule
+fill_over fill len h g = rw (le-leb fill 3 h, lt-leb fill len g)
+
 module _ (xs : List ℕ) (fill : ℕ) where
   pub audit_refused : (r : Refusal) → bundle_of xs ≡ Err r → audit_bundle_of xs fill ≡ refused_bundle r
   unfolding audit_bundle_of

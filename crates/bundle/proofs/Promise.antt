@@ -26,6 +26,19 @@ use Rattle.bundle.specs.declared.Bundle.{Bundle}
 use Rattle.bundle.proofs.Laws.{fill_exact, audit_read}
 use Rattle.bundle.proofs.Placed.{bundle_placed, part_bytes}
 
+-- a report is one of three
+pub fault_no_pass : {X : Type 0} (r : Refusal) (n : ℕ) → refused_bundle r ≡ Ok n → X
+fault_no_pass r n e = let z : ◌≡◌ {A = ℕ} 0 1 = cc in absurd (omega arith)
+
+pub fault_no_entry : {X : Type 0} (r : Refusal) (f : Fault) → refused_bundle r ≡ Err (BundleFault.Entry f) → X
+fault_no_entry r f e = let z : ◌≡◌ {A = ℕ} 0 1 = cc in absurd (omega arith)
+
+pub pass_no_entry : {X : Type 0} (n : ℕ) (f : Fault) → ◌≡◌ {A = Report} (Ok n) (Err (BundleFault.Entry f)) → X
+pass_no_entry n f e = let z : ◌≡◌ {A = ℕ} 0 1 = cc in absurd (omega arith)
+
+pub entry_no_pass : {X : Type 0} (f : Fault) (n : ℕ) → ◌≡◌ {A = Report} (Err (BundleFault.Entry f)) (Ok n) → X
+entry_no_pass f n e = let z : ◌≡◌ {A = ℕ} 0 1 = cc in absurd (omega arith)
+
 module _ (xs : List ℕ) (fill : ℕ) where
   -- a bundle that was read, with a fill that fits
   record Filled (b : Bundle) : Type 0 where
@@ -78,11 +91,11 @@ module _ (xs : List ℕ) (fill : ℕ) where
   passed_sound n e = go (audit_bundle_of xs fill) e reports
     where
       go : (x : Report) → x ≡ Ok n → Reports x → SoundBundle xs fill n
-      go x p (Reports.refused {r = r}) = let z : ◌≡◌ {A = ℕ} 0 1 = cc in absurd (omega arith)
+      go x p (Reports.refused {r = r}) = fault_no_pass r n p
       go x p (Reports.passes {b = b} f a) =
           let q : b.index_bytes / 8 ≡ n = cc in
           record { bundle = b; is = f.is; fills = f.fills; entries = sym q ∙ counted b f.is; sound = (audit_exact (image_in xs fill b)).0 a }
-      go x p (Reports.entry f a) = let z : ◌≡◌ {A = ℕ} 0 1 = cc in absurd (omega arith)
+      go x p (Reports.entry {f = g} f a) = entry_no_pass g n p
 
   pub sound_passed : (n : ℕ) → SoundBundle xs fill n → audit_bundle_of xs fill ≡ Ok n
   sound_passed n s =
@@ -103,8 +116,8 @@ module _ (xs : List ℕ) (fill : ℕ) where
   entry_fault g e = go (audit_bundle_of xs fill) e reports
     where
       go : (x : Report) → x ≡ Err (BundleFault.Entry g) → Reports x → FaultyEntry xs fill g.refusal g.entry
-      go x p Reports.refused = let z : ◌≡◌ {A = ℕ} 0 1 = cc in absurd (omega arith)
-      go x p (Reports.passes f a) = let z : ◌≡◌ {A = ℕ} 0 1 = cc in absurd (omega arith)
+      go x p (Reports.refused {r = r}) = fault_no_entry r g p
+      go x p (Reports.passes {b = b} f a) = pass_no_entry (b.index_bytes / 8) g p
       go x p (Reports.entry {b = b} {f = h} f a) =
           let q : h ≡ g = cc in
           at_entry b f.is (sections b f.is f.fills.1) g.refusal g.entry (audit_refused (image_in xs fill b) g.refusal g.entry (rw q at a))

@@ -1,4 +1,5 @@
 // The line of a case: its name, then numbers and bytes in hex, with single spaces between them.
+ghost use Rattle.std.specs.Prelude.{◌<◌};
 
 // Room for the longest slice that a case lends.
 pub(crate) const ROOM: usize = 131200;
@@ -15,7 +16,9 @@ fn digits<'a>(word: &'a [u8]) -> (&'a [u8], &'a [u8]) {
 }
 
 // The value of a hex digit. Letters stand 9 above their last four bits.
-fn digit(b: u8) -> u8 {
+fn digit(b: u8) -> u8
+    ensures { result < 16 }
+{
     (b % 16 + b % 128 / 64 * 9) % 16
 }
 

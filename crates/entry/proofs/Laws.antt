@@ -7,7 +7,7 @@ use mathlib.Core.List.{List}
 use native.Mathlib.Omega.{arith}
 use lib.ListN.{length}
 use lib.Dec.{ltb, leb, eqb}
-use borrow.Author.Tests.{le-ltb, lt-ltb, ltb-true, ltb-false, leb-true, leb-false, eqb-true}
+use borrow.Author.Tests.{le-ltb, ltb-true, ltb-false, leb-true, leb-false, eqb-true}
 use denote.Ref.{Bor}
 use Rattle.std.specs.Result.{result_and}
 use Rattle.section.specs.Rule.{index_most, table_most, table_rule, Section, IndexSection}
@@ -33,6 +33,7 @@ use Rattle.entry.specs.declared.Held.{Held}
 use Rattle.entry.specs.declared.Span.{Span}
 use Rattle.entry.specs.declared.Content.{Content}
 use Rattle.entry.specs.declared.TableEntry.{TableEntry}
+use Rattle.entry.proofs.Ways.{function_sound as word_sound, function_corrupt as word_corrupt, function_made}
 
 -- ---- which entries are there
 pub numbered_exact : (len : ℕ) (a : Addr) (k : ℕ) → (numbered len a k ≡ fine) ↔ (IndexSection len a × (k < len / 8))
@@ -49,18 +50,6 @@ numbered_there len a k e = let h = (numbered_exact len a k).0 e in (h.0.section.
 
 -- ---- the index
 module _ (xs : List ℕ) (a : Addr) (k : ℕ) where
-  word_sound : word xs (8 * k) < 2 ^ 31 → function_in xs a k ≡ Ok (function_of xs a k)
-  unfolding function_in
-  word_sound h = simp (lt-ltb _ _ h)
-
-  word_corrupt : 2 ^ 31 ≤ word xs (8 * k) → function_in xs a k ≡ Err Refusal.Corrupt
-  unfolding function_in
-  word_corrupt h = simp (le-ltb _ _ h)
-
-  word_leads : {w : ℕ} {p f : Addr} → w ≡ word xs (8 * k) → p ≡ address_of a (off (8 * k)) → f ≡ prel31_of w p → f ≡ function_of xs a k
-  unfolding function_of
-  word_leads e q r = cc
-
   pub function_address : (function_of xs a k).0 < 2 ^ 32
   unfolding function_of
   function_address = prel31_address _ _
@@ -72,16 +61,16 @@ module _ (xs : List ℕ) (a : Addr) (k : ℕ) where
     -- a function word that is all there and sound
     pub function_sound : k < entries xs → word xs (8 * k) < 2 ^ 31 → function_at xs a k ≡ Ok (function_of xs a k)
     unfolding function_at
-    function_sound h w = rw (there h) (word_sound w)
+    function_sound h w = rw (there h) (word_sound xs a k w)
 
     -- what a reader of that word makes of it
     pub function_from : k < entries xs → {w : ℕ} {p f : Addr} → w ≡ word xs (8 * k) → w < 2 ^ 31 → p ≡ address_of a (off (8 * k)) → f ≡ prel31_of w p
         → function_at xs a k ≡ Ok f
-    function_from h {w} {p} {f} e b q r = function_sound h (omega arith) ∙ ap Ok (sym (word_leads e q r))
+    function_from h {w} {p} {f} e b q r = function_sound h (omega arith) ∙ ap Ok (sym (function_made xs a k w e p f q r))
 
     pub function_corrupt : k < entries xs → {w : ℕ} → w ≡ word xs (8 * k) → 2 ^ 31 ≤ w → function_at xs a k ≡ Err Refusal.Corrupt
     unfolding function_at
-    function_corrupt h e b = rw (there h) (word_corrupt (omega arith))
+    function_corrupt h e b = rw (there h) (word_corrupt xs a k (omega arith))
 
     pub function_gives : FunctionGives xs a k (function_at xs a k)
     unfolding function_at function_in
@@ -128,8 +117,8 @@ module _ (xs : List ℕ) (a : Addr) (k : ℕ) where
       told : IndexSection (length xs) a → k < entries xs → function_in xs a k ≡ Ok f → FunctionTold xs a k f
       told s h e =
           by_test (ltb (word xs (8 * k)) (2 ^ 31))
-          (λ t. let w = ltb-true (word xs (8 * k)) (2 ^ 31) t in let g = word_sound w in record { section = s; there = h; sound = w; is = cc })
-          (λ t. no_refusal Refusal.Corrupt (sym (word_corrupt (ltb-false _ _ t)) ∙ e))
+          (λ t. let w = ltb-true (word xs (8 * k)) (2 ^ 31) t in let g = word_sound xs a k w in record { section = s; there = h; sound = w; is = cc })
+          (λ t. no_refusal Refusal.Corrupt (sym (word_corrupt xs a k (ltb-false _ _ t)) ∙ e))
 
       go : (x : Check) → numbered (length xs) a k ≡ x → result_and x (function_in xs a k) ≡ Ok f → FunctionTold xs a k f
       go fine n e = let h = (numbered_exact (length xs) a k).0 n in told h.0 h.1 e
@@ -140,6 +129,10 @@ module _ (xs : List ℕ) (a : Addr) (k : ℕ) where
       → index_entry_of xs a k ≡ and_then (content_at xs a k) (λ c. Ok (record { function = f; content = c }))
   unfolding index_entry_of
   index_led f e = rw e
+
+  pub index_refused : (r : Refusal) → function_at xs a k ≡ Err r → index_entry_of xs a k ≡ Err r
+  unfolding index_entry_of
+  index_refused r e = rw e
 
 -- ---- the table
 -- what a reader of a table has to know

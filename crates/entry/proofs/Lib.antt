@@ -1,2 +1,3 @@
 -- The laws that this crate and the crates above cite.
 pub mod Laws
+mod Ways

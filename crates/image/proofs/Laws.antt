@@ -24,7 +24,7 @@ use Rattle.entry.specs.declared.Personality.{Personality}
 use Rattle.entry.specs.declared.Content.{Content}
 use Rattle.entry.specs.declared.TableEntry.{TableEntry}
 use Rattle.entry.specs.declared.IndexEntry.{IndexEntry}
-use Rattle.entry.proofs.Laws.{index_gives, table_gives, index_led, words_length, language_short}
+use Rattle.entry.proofs.Laws.{index_gives, table_gives, index_led, index_refused, words_length, language_short}
 use Rattle.image.specs.Image.{Image, count_of, sections_of, Sections, by_personality, from_table, from_place, from_content, entry_at, led_in, led_by, language_of}
 use Rattle.image.specs.Read.{Readable, EntryRefusal, Leads, Names}
 
@@ -46,18 +46,22 @@ sections_fault i r e = go (index_rule (length i.index) i.index_at) refl e
 
 -- ---- one law for each way to an entry
 module _ (i : Image) (k : ℕ) where
-  entry_faulty : (r : Refusal) → sections_of i ≡ Err r → entry_at i k ≡ Err r
+  pub entry_faulty : (r : Refusal) → sections_of i ≡ Err r → entry_at i k ≡ Err r
   unfolding entry_at
   entry_faulty r e = rw e
 
-  led_faulty : (f : Addr) (r : Refusal) → sections_of i ≡ Err r → led_by i k f ≡ Err r
+  pub led_faulty : (f : Addr) (r : Refusal) → sections_of i ≡ Err r → led_by i k f ≡ Err r
   unfolding led_by
   led_faulty f r e = rw e
 
   module _ (s : sections_of i ≡ fine) where
-    led_fine : (f : Addr) → led_by i k f ≡ led_in i k f
+    pub led_fine : (f : Addr) → led_by i k f ≡ led_in i k f
     unfolding led_by
     led_fine f = rw s
+
+    pub entry_corrupt : (r : Refusal) → function_at i.index i.index_at k ≡ Err r → entry_at i k ≡ Err r
+    unfolding entry_at
+    entry_corrupt r e = rw (s, index_refused i.index i.index_at k r e)
 
     pub entry_led : (f : Addr) → function_at i.index i.index_at k ≡ Ok f → entry_at i k ≡ led_in i k f
     unfolding entry_at led_in
@@ -110,7 +114,7 @@ module _ (i : Image) (s : Sections i) where
       let e = words_length (chosen n.held i.index i.table) n h in
       record { whole = e; some = h.some; short = omega (arith, h.short); skips = h.skips; skips_few = h.skips_few }
 
-  language_most : (o : Off) → length (language_of i o) ≤ table_most
+  pub language_most : (o : Off) → length (language_of i o) ≤ table_most
   language_most o = omega (arith, language_short i.table o, s.table.short)
 
   in_held : (h : Held) (n : Span) → n.held ≡ h → Inside (length (chosen h i.index i.table)) n → Readable i n

@@ -1,5 +1,5 @@
--- What an answer says of the words: whole words up to there, or their end. Assumes nothing.
-use Rattle.std.proofs.Common.{◌≡◌, ℕ, ◌+◌, ◌≤◌, ◌<◌, List, length, ltb, refl, arith, ltb-true, ltb-false, Some, None, Ok, Err}
+-- Laws of instruction bytes: one for each way to an answer, and what an answer says of the words. Assumes nothing.
+use Rattle.std.proofs.Common.{◌≡◌, ℕ, ◌+◌, ◌≤◌, ◌<◌, List, length, ltb, refl, arith, ltb-true, ltb-false, lt-ltb, le-ltb, Some, None, Ok, Err}
 use Rattle.section.specs.Pick.{pick}
 use Rattle.section.specs.Check.{Check, fine, and_then}
 use Rattle.section.specs.Rule.{words_rule, WholeWords}
@@ -9,6 +9,18 @@ use Rattle.section.proofs.Rules.{words_exact}
 use Rattle.instruction.specs.Bytes.{Byte, instruction_byte, byte_of, WithinWords}
 
 module _ (w : List ℕ) (k : ℕ) where
+  pub byte_refused : (r : Refusal) → words_rule (length w) ≡ Err r → byte_of w k ≡ Err r
+  unfolding byte_of
+  byte_refused r e = rw e
+
+  pub byte_past : WholeWords (length w) → length w ≤ k → byte_of w k ≡ Ok None
+  unfolding byte_of
+  byte_past x h = rw ((words_exact (length w)).1 x, le-ltb k (length w) h)
+
+  pub byte_here : WholeWords (length w) → k < length w → byte_of w k ≡ Ok (Some (instruction_byte w k))
+  unfolding byte_of
+  byte_here x h = rw ((words_exact (length w)).1 x, lt-ltb k (length w) h)
+
   -- what holds of a byte that is there, of the end and of each refusal holds of what stands at a position
   pub byte_each : (P : Byte → Type 0) → (WholeWords (length w) → k < length w → P (Ok (Some (instruction_byte w k)))) → (WholeWords (length w) → length w ≤ k → P (Ok None)) → ((r : Refusal) → words_rule (length w) ≡ Err r → P (Err r)) → P (byte_of w k)
   unfolding byte_of

@@ -1,7 +1,8 @@
--- Laws of the instructions: how B2's ULEB ends, and what is known of an instruction that was decoded. Assumes nothing.
-use Rattle.std.proofs.Common.{◌≡◌, ℕ, ◌+◌, ◌-◌, ◌*◌, ◌%◌, ◌≤◌, ◌<◌, Bool, List, length, eqb, leb, refl, sym, ap, ◌∙◌, arith, Some, None, Ok, Err}
+-- Laws of the instructions: one for each way to an answer, and what is known of an instruction that was decoded. Assumes nothing.
+use Rattle.std.proofs.Common.{◌≡◌, ℕ, ◌+◌, ◌-◌, ◌*◌, ◌%◌, ◌≤◌, ◌<◌, Bool, List, length, eqb, leb, refl, sym, ap, ◌∙◌, arith, le-leb, eq-eqb, ne_eqb, Some, None, Ok, Err}
 use Rattle.std.specs.Option.{option_map_or}
 use native.Mathlib.Nat.{le_refl}
+use borrow.Author.Tests.{lt-leb}
 use Rattle.section.specs.Pick.{pick}
 use Rattle.section.specs.Check.{and_then}
 use Rattle.section.specs.Digits.{digits, End, end_of}
@@ -11,10 +12,42 @@ use Rattle.section.proofs.Picks.{pick_both}
 use Rattle.section.proofs.Checks.{no_fault}
 use Rattle.section.proofs.Ends.{end_each}
 use Rattle.section.proofs.Rules.{words_exact}
-use Rattle.instruction.specs.Bytes.{WithinWords}
-use Rattle.instruction.specs.Decode.{Step, step, error_at, with_second, pop_mask, to_sp, pop_run, low_mask, bytes_from, long_of, ended_long, pop_long, vfp_pop, single_of, opcode_of, Decoded, decode_of, Named}
+use Rattle.instruction.specs.Bytes.{byte_of, WithinWords}
+use Rattle.instruction.specs.Decode.{Step, step, error_at, with_second, size_of, pop_mask, to_sp, pop_run, low_mask, bytes_from, long_of, ended_long, pop_long, vfp_pop, single_of, opcode_of, Decoded, decode_of, Named}
 use Rattle.instruction.specs.declared.Instruction.{Instruction}
 use Rattle.instruction.proofs.Bytes.{byte_each}
+
+-- ---- a second byte c
+module _ (w : List ℕ) (n c : ℕ) (e : byte_of w n ≡ Ok (Some c)) where
+  pub mask_refused : (b : ℕ) → b % 16 * 256 + c ≡ 0 → pop_mask w n b ≡ step Instruction.Refused (n + 1)
+  unfolding pop_mask
+  mask_refused b h = rw (e, eq-eqb (b % 16 * 256 + c) 0 h)
+
+  pub mask_pop : (b : ℕ) → 0 < b % 16 * 256 + c → pop_mask w n b ≡ step (Instruction.RegPop ((b % 16 * 256 + c) * 16)) (n + 1)
+  unfolding pop_mask
+  mask_pop b h = rw (e, ne_eqb (b % 16 * 256 + c) 0 (λ z. omega arith))
+
+  pub low_zero : c ≡ 0 → low_mask w n ≡ step Instruction.Reserved (n + 1)
+  unfolding low_mask
+  low_zero h = rw (e, eq-eqb c 0 h)
+
+  pub low_high : 0x10 ≤ c → low_mask w n ≡ step Instruction.Reserved (n + 1)
+  unfolding low_mask
+  low_high h = rw (e, ne_eqb c 0 (λ z. omega arith), le-leb 0x10 c h)
+
+  pub low_pop : 0 < c → c < 0x10 → low_mask w n ≡ step (Instruction.RegPop c) (n + 1)
+  unfolding low_mask
+  low_pop h g = rw (e, ne_eqb c 0 (λ z. omega arith), lt-leb 0x10 c g)
+
+-- ---- the value of a ULEB
+module _ (w : List ℕ) (n v : ℕ) where
+  pub long_in : v ≤ 0x3FFFFF7E → long_of w n v ≡ step (Instruction.DataPop (4 * v + 0x204)) n
+  unfolding long_of
+  long_in h = rw (le-leb v 0x3FFFFF7E h)
+
+  pub long_over : 0x3FFFFF7E < v → long_of w n v ≡ error_at w
+  unfolding long_of
+  long_over h = rw (lt-leb v 0x3FFFFF7E h)
 
 -- B2, by how its ULEB ends
 module _ (w : List ℕ) (n : ℕ) where
@@ -24,6 +57,32 @@ module _ (w : List ℕ) (n : ℕ) where
 
   pub long_after : (k : ℕ) {m v : ℕ} → m ≡ n + k → v ≡ digits 128 (bytes_from w n) k → long_of w m v ≡ ended_long w n (End.after k)
   long_after k p q = rw (p, q)
+
+-- ---- the ranges of a first byte b
+module _ (w : List ℕ) (n b : ℕ) where
+  pub is_pop : b ≤ 0x3F → opcode_of w n b ≡ step (Instruction.DataPop (size_of b)) n
+  unfolding opcode_of
+  is_pop h = rw (le-leb b 0x3F h)
+
+  pub is_push : 0x3F < b → b ≤ 0x7F → opcode_of w n b ≡ step (Instruction.DataPush (size_of b)) n
+  unfolding opcode_of
+  is_push g h = rw (lt-leb b 0x3F g, le-leb b 0x7F h)
+
+  pub is_mask : 0x7F < b → b ≤ 0x8F → opcode_of w n b ≡ pop_mask w n b
+  unfolding opcode_of
+  is_mask g h = rw (lt-leb b 0x3F (omega arith), lt-leb b 0x7F g, le-leb b 0x8F h)
+
+  pub is_to_sp : 0x8F < b → b ≤ 0x9F → opcode_of w n b ≡ to_sp n b
+  unfolding opcode_of
+  is_to_sp g h = rw (lt-leb b 0x3F (omega arith), lt-leb b 0x7F (omega arith), lt-leb b 0x8F g, le-leb b 0x9F h)
+
+  pub is_run : 0x9F < b → b ≤ 0xAF → opcode_of w n b ≡ pop_run n b
+  unfolding opcode_of
+  is_run g h = rw (lt-leb b 0x3F (omega arith), lt-leb b 0x7F (omega arith), lt-leb b 0x8F (omega arith), lt-leb b 0x9F g, le-leb b 0xAF h)
+
+  pub is_single : 0xAF < b → opcode_of w n b ≡ single_of w n b
+  unfolding opcode_of
+  is_single g = rw (lt-leb b 0x3F (omega arith), lt-leb b 0x7F (omega arith), lt-leb b 0x8F (omega arith), lt-leb b 0x9F (omega arith), lt-leb b 0xAF g)
 
 -- ---- each instruction takes a byte: the next position is not before n
 data Taken (n : ℕ) : Step → Type 0 where

@@ -17,6 +17,16 @@ use Rattle.search.proofs.Laws.{found_led}
 use Rattle.lookup.specs.Lookup.{looked_at, lookup_of}
 use Rattle.lookup.specs.declared.Looked.{Looked}
 
+-- what an entry leads to: one that cannot be unwound, and a compact one
+module _ (ys : List ℕ) (c : Addr) (k : ℕ) (f : Addr) where
+  pub looked_cannot : looked_at ys c k (Found.CannotUnwind f) ≡ Ok (Looked.CannotUnwind k f)
+  unfolding looked_at
+  looked_cannot = refl
+
+  pub looked_compact : (n : ℕ) (s : Span) → looked_at ys c k (Found.Compact f n s) ≡ Ok (Looked.Compact k f s.held n)
+  unfolding looked_at
+  looked_compact n s = refl
+
 -- a generic entry: y is the call site of its language data
 pub looked_generic : (ys : List ℕ) (c : Addr) (k : ℕ) (f p : Addr) (s : Span) (o : Off) {language : List ℕ} {y : Answered CallSite}
     → language ≡ language_in ys o → y ≡ call_site_of language f c → looked_at ys c k (Found.Generic f p s o) ≡ and_then y (λ site. Ok (Looked.Generic k f p site))

@@ -33,6 +33,9 @@ module _ (s : List ℕ) where
   Of (Ok x) = Unit
   Of (Err r) = NoPointer (length s) r
 
+  abbrev pub OfHeader : Answered Header → Type 0
+  OfHeader h = Of h
+
   reading_of : {A X : Type 0} (r : Answered (A × Off)) (go : A → Off → Answered X) → Of r → ((e : A) (p : Off) → Of (go e p)) → Of (reading r go)
   reading_of (Ok x) go h g = g x.0 x.1
   reading_of (Err r) go h g = h

@@ -1,6 +1,6 @@
 -- A call site's sums: one law for each way to the answer that a site is. Assumes nothing.
 use Prim.Native.Nat.{ℕ, ◌+◌, ◌≤◌, ◌<◌}
-use mathlib.Core.Path.{◌≡◌, refl}
+use mathlib.Core.Path.{◌≡◌, refl, ◌∙◌}
 use native.Mathlib.Omega.{arith}
 use lib.Dec.{leb}
 use borrow.Author.Tests.{le-leb, lt-leb, leb-true, leb-false, eq-eqb, ne_eqb}
@@ -59,6 +59,17 @@ module _ (a : ℕ) where
   unfolding settled_action
   action_over h g = rw (ne_eqb _ _ h, lt-leb _ _ g)
 
+-- ---- what a site with this pad gives, by its action
+module _ (x : Site) (pad : Option Addr) where
+  pub landed_none : x.action ≡ 0 → and_then (settled_action x.action) (λ a. Ok (call_site x pad a)) ≡ Ok (call_site x pad None)
+  landed_none h = rw (action_none x.action h)
+
+  pub landed_record : (x.action ≡ 0 → ⊥) → x.action + 1 ≤ 0xFFFFFFFF → and_then (settled_action x.action) (λ a. Ok (call_site x pad a)) ≡ Ok (call_site x pad (Some (x.action + 1)))
+  landed_record h g = rw (action_record x.action h g)
+
+  pub landed_over : (x.action ≡ 0 → ⊥) → 0xFFFFFFFF < x.action + 1 → and_then (settled_action x.action) (λ a. Ok (call_site x pad a)) ≡ Err Refusal.Sum
+  landed_over h g = rw (action_over x.action h g)
+
 -- ---- the answer that a site is
 module _ (base : Addr) (x : Site) where
   -- the pad is settled before the action
@@ -70,6 +81,16 @@ module _ (base : Addr) (x : Site) where
       go (Ok k) (Ok l) p a = refl
       go (Ok k) (Err r) p a = refl
       go (Err r) l p a = refl
+
+  -- so by its pad
+  pub settled_none : x.pad ≡ 0 → settled_of base x ≡ and_then (settled_action x.action) (λ a. Ok (call_site x None a))
+  settled_none h = settled_is ∙ rw (pad_none base x.pad h)
+
+  pub settled_at : (a : Addr) → (x.pad ≡ 0 → ⊥) → plus_of base x.pad ≡ Some a → settled_of base x ≡ and_then (settled_action x.action) (λ n. Ok (call_site x (Some a) n))
+  settled_at a h e = settled_is ∙ rw (pad_at base x.pad a h e)
+
+  pub settled_over : (x.pad ≡ 0 → ⊥) → plus_of base x.pad ≡ None → settled_of base x ≡ Err Refusal.Sum
+  settled_over h e = settled_is ∙ rw (pad_over base x.pad h e)
 
   -- ---- what the answer tells of the test
   on_fine : (k : Check) (y z : CallSite) → result_and k (Ok y) ≡ Ok z → k ≡ fine

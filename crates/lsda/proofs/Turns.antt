@@ -10,7 +10,7 @@ use borrow.Author.Tests.{lt-ltb, le-ltb}
 use Rattle.section.specs.Rule.{table_most}
 use Rattle.std.proofs.Common.{Ok, Err, Some, None, Option}
 use Rattle.std.specs.Option.{ok_or}
-use Rattle.section.specs.Check.{Answered, and_then}
+use Rattle.section.specs.Check.{Answered, and_then, on_answer}
 use Rattle.section.specs.Sum.{plus_of}
 use Rattle.section.specs.Walk.{Look, Trail, Upward}
 use Rattle.section.specs.declared.Addr.{Addr}
@@ -31,6 +31,12 @@ use Rattle.lsda.specs.declared.Header.{Header}
 use Rattle.lsda.specs.declared.Site.{Site}
 
 -- what holds of each way on from a read holds of what is made of it
+pub on_read_lem : {X : Type 0} (P : X → Type 0) {Why : Refusal → Type 0} {at len : ℕ} (r : Read) (stop : Refusal → X) (go : ℕ → Off → X)
+    → ReadsOn Why at len r → ((x : Refusal) → Why x → P (stop x)) → ((v : ℕ) (p : Off) → at < p.0 → p.0 ≤ len → P (go v p)) → P (on_answer r (λ x. go x.0 x.1) stop)
+on_read_lem P r stop go (ReadsOn.value {v = v} {next = p} f a b) w g = g v p a b
+on_read_lem P r stop go (ReadsOn.refused {r = x} y) w g = w x y
+
+-- and where a refusal stays one
 pub reading_lem : {X : Type 0} (P : Answered X → Type 0) {Why : Refusal → Type 0} {at len : ℕ} (r : Read) (go : ℕ → Off → Answered X)
     → ReadsOn Why at len r → ((x : Refusal) → Why x → P (Err x)) → ((v : ℕ) (p : Off) → at < p.0 → p.0 ≤ len → P (go v p)) → P (reading r go)
 reading_lem P r go (ReadsOn.value {v = v} {next = p} f a b) w g = g v p a b

@@ -27,6 +27,9 @@ bounded_in : {at len : ℕ} (x : Answered Number) (n : Number) → NumberOn at l
 bounded_in (Ok m) n (NumberOn.number b p q) e = let k : m ≡ n = cc in subst Bounded k b
 bounded_in (Err r) n (NumberOn.refused w) e = let z : ◌≡◌ {A = ℕ} 0 1 = cc in absurd (omega arith)
 
+pub bounded : {at len : ℕ} (n : Number) → NumberOn at len (Ok n) → Bounded n
+bounded n h = bounded_in (Ok n) n h refl
+
 halves : (x p q : ℕ) → x < p → p ≡ q + q → x < p / 2 + p / 2
 halves x p q h e = omega arith
 
@@ -71,6 +74,14 @@ module _ (s : List ℕ) (at n : ℕ) where
   fixed_out h = simp (lt-leb _ _ h)
 
 module _ (x : Number) where
+  pub unsigned_in : x.value < 2 ^ 32 → unsigned_of x ≡ Ok (x.value, x.next)
+  unfolding unsigned_of
+  unsigned_in l = simp (lt-ltb x.value (2 ^ 32) l)
+
+  pub unsigned_over : 2 ^ 32 ≤ x.value → unsigned_of x ≡ Err Refusal.Value
+  unfolding unsigned_of
+  unsigned_over l = simp (le-ltb x.value (2 ^ 32) l)
+
   pub plus_in : x.value < x.half → x.value < 2 ^ 31 → signed_of x ≡ Ok (x.value, x.next)
   unfolding signed_of
   plus_in l m = simp (lt-ltb x.value x.half l, lt-ltb x.value (2 ^ 31) m)
@@ -90,6 +101,13 @@ module _ (x : Number) where
   pub minus_over : x.half ≤ x.value → 2 ^ 31 < x.half - (x.value - x.half) → signed_of x ≡ Err Refusal.Value
   unfolding signed_of
   minus_over l m = rw (taken l) (simp (le-ltb x.value x.half l, lt-leb (x.half - (x.value - x.half)) (2 ^ 31) m))
+
+-- a refusal is handed on
+pub unsigned_refused : (r : Refusal) → and_then (Err r) unsigned_of ≡ Err r
+unsigned_refused r = refl
+
+pub signed_refused : (r : Refusal) → and_then (Err r) signed_of ≡ Err r
+signed_refused r = refl
 
 -- a value goes on as far as the number
 module _ {at len : ℕ} where

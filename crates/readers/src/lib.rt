@@ -2,7 +2,7 @@
 // Each call returns the refusal's number, 0 for none, and fills its row, all zero at a refusal.
 #![tactic(auto)]
 
-ghost use Rattle.std.specs.Prelude.{◌≡◌, [], ◌∷◌, length, slice_index, Ok};
+ghost use Rattle.std.specs.Prelude.{◌≡◌, [], ◌∷◌, Ok};
 ghost use Rattle.std.specs.Option.{option_map_or};
 ghost use Rattle.section.specs.Answer.{Told};
 ghost use Rattle.section.specs.Answers.{check_answer, offset_answer, sum_answer, word_answer};
@@ -13,7 +13,6 @@ ghost use Rattle.section.specs.Word.{word_at};
 ghost use Rattle.instruction.specs.Answers.{byte_answer};
 ghost use Rattle.instruction.specs.Bytes.{byte_of};
 ghost use Rattle.entry.specs.Answers.{function_answer, content_answer, language_answer};
-ghost use Rattle.entry.specs.Parts.{language_in};
 ghost use Rattle.entry.specs.Index.{function_at, content_at};
 ghost use Rattle.entry.specs.Table.{table_entry_of};
 ghost use Rattle.lsda.specs.Answers.{header_answer, site_read_answer, site_read_row};
@@ -26,7 +25,7 @@ ghost use Rattle.walker.specs.Walker.{walked_byte, walked_instruction};
 
 use image::Found;
 use lsda::{Header, Site};
-use section::{Addr, Off, Refusal, Section};
+use section::{Addr, Off, Refusal};
 use walker::Walked;
 
 // No row, so nothing for `told` to fill.
@@ -75,16 +74,8 @@ pub fn anrukfal_word(bytes: &[u8], at: u32, row: &mut [u32; 1]) -> u32
     rows::told(word.map(word_row), [0], row)
 }
 
-// The row of the language data of the table entry at an offset.
-fn language_row(table: Section, offset: Off, at: usize) -> Result<[u64; 2], Refusal>
-    ensures { result ≡ and_then (table_entry_of table.entry.bytes.now table.entry.at offset) (λ e. Ok (length (language_in table.entry.bytes.now e.language) ∷ slice_index (language_in table.entry.bytes.now e.language) at ∷ [])) }
-{
-    let e = entry::table_entry(table, offset)?;
-    let data = entry::language_from(table.bytes, e.language);
-    Ok([data.len() as u64, data.get(at).copied().unwrap_or(0) as u64])
-}
-
-// How many bytes the language data of the table entry at an offset has, and the one at a position.
+// How many bytes the language data of the table entry at an offset has, and the one at a position. A refusal has the empty part, so both are 0.
+#[tactic(auto, using(crate::proofs::Laws::language_told))]
 pub fn anrukfal_language(
     table: &[u8],
     table_address: u32,
@@ -95,7 +86,12 @@ pub fn anrukfal_language(
     ensures { Told (language_answer table.now at (table_entry_of table.now (addr table_address) (off offset))) result row.new }
 {
     let table = rows::section(table, table_address);
-    rows::told(language_row(table, Off(offset), at), [0; 2], row)
+    let data = entry::language_data(table, Off(offset));
+    *row = [data.len() as u64, data.get(at).copied().unwrap_or(0) as u64];
+    match entry::table_entry(table, Off(offset)) {
+        Ok(_) => 0,
+        Err(r) => r.number(),
+    }
 }
 
 fn byte_row(byte: Option<u8>) -> [u32; 2]

@@ -54,7 +54,8 @@ pub fn image<'a>(
     table: &'a [u8],
     table_address: u32,
 ) -> Image<'a>
-    ensures { seen result ≡ image index.now (addr index_address) table.now (addr table_address) }
+    ensures answer { result ≡ record { index = record { bytes = index.entry; at = addr index_address }; table = record { bytes = table.entry; at = addr table_address } } }
+    ensures seen { seen result ≡ image index.now (addr index_address) table.now (addr table_address) }
 {
     Image {
         index: section(index, index_address),

@@ -71,7 +71,7 @@ module _ (xs : List ℕ) (a counter : Addr) where
       wide : 1 < high - low
       wide = omega arith
 
-      halve_refused : (r : Refusal) → function_at xs a ((low + high) / 2) ≡ Err r → halve xs a counter low f high probes ≡ Err r
+      pub halve_refused : (r : Refusal) → function_at xs a ((low + high) / 2) ≡ Err r → halve xs a counter low f high probes ≡ Err r
       unfolding halve halve_from
       halve_refused r e = rw left (simp (lt-ltb _ _ wide, e))
 
@@ -90,12 +90,20 @@ module _ (xs : List ℕ) (a counter : Addr) where
           rw left (simp (lt-ltb _ _ wide, e, lt-leb _ _ b) (enough (high - low - 1) ((low + high) / 2 - low) low f ((low + high) / 2) (probes + 1) (omega arith) (omega arith)))
 
   -- ---- the ways to an answer
+  pub search_section : (r : Refusal) → index_rule (length xs) a ≡ Err r → search_of xs a counter ≡ Err r
+  unfolding search_of
+  search_section r h = rw h
+
   module _ (p : index_rule (length xs) a ≡ fine) where
     pub search_empty : entries xs ≡ 0 → search_of xs a counter ≡ Err Refusal.NoEntry
     unfolding search_of
     search_empty e = rw (p, eq-eqb (entries xs) 0 e)
 
     module _ (some : entries xs ≡ 0 → ⊥) where
+      pub search_refused : (r : Refusal) → function_at xs a 0 ≡ Err r → search_of xs a counter ≡ Err r
+      unfolding search_of
+      search_refused r e = rw (p, ne_eqb (entries xs) 0 some, e)
+
       pub search_below : (f : Addr) → function_at xs a 0 ≡ Ok f → counter.0 < f.0 → search_of xs a counter ≡ Err Refusal.NoEntry
       unfolding search_of
       search_below f e h = rw (p, ne_eqb (entries xs) 0 some, e, lt-ltb _ _ h)

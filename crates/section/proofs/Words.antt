@@ -42,6 +42,13 @@ module _ (xs : List ℕ) (o : ℕ) where
       (λ t. word_there (leb-true _ _ t) ∙ ap (λ x. unwrap_or x 0) (sym (word_in (leb-true _ _ t))))
       (λ f. word_zero (leb-false _ _ f) ∙ ap (λ x. unwrap_or x 0) (sym (word_out (leb-false _ _ f))))
 
+  -- by what was read
+  pub word_or_at : (w : ℕ) → word_at xs o ≡ Some w → word_or_zero xs o ≡ w
+  word_or_at w e = word_or ∙ ap (λ x. unwrap_or x 0) e
+
+  pub word_or_short : word_at xs o ≡ None → word_or_zero xs o ≡ 0
+  word_or_short e = word_or ∙ ap (λ x. unwrap_or x 0) e
+
   first_of : (n : ℕ) → o + n ≤ length xs → 4 ≤ n → word_or_zero (take n (drop o xs)) 0 ≡ word xs o
   unfolding word_or_zero word
   first_of n h g =

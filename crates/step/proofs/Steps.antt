@@ -1,5 +1,5 @@
 -- Laws of a step: one for each way to an answer. Assumes nothing.
-use Rattle.std.proofs.Common.{◌≡◌, ℕ, List, length, refl, Ok, Err}
+use Rattle.std.proofs.Common.{◌≡◌, ℕ, List, length, sym, refl, ap, ◌∙◌, Ok, Err}
 use Rattle.section.specs.Check.{Answered, fine, on_answer}
 use Rattle.section.specs.Rule.{stack_rule}
 use Rattle.section.specs.declared.Addr.{Addr}
@@ -12,11 +12,17 @@ use Rattle.search.specs.Search.{search_of}
 use Rattle.search.specs.declared.Hit.{Hit}
 use Rattle.search.proofs.Laws.{found_led}
 use Rattle.instruction.specs.Program.{audit_instructions_of}
-use Rattle.step.specs.Run.{refused_step, Arrives}
+use Rattle.step.specs.Run.{refused_step, run_of, Arrives}
 use Rattle.step.specs.Step.{ran_by, stepped_by, counter_of, found_of, step_of}
 use Rattle.step.specs.declared.Registers.{Registers}
+use Rattle.step.specs.declared.Stepped.{Stepped}
 use Rattle.step.specs.declared.Arrival.{Arrival}
 use Rattle.step.proofs.Clean.{clean_run}
+
+-- the run of a span's words, w, is the step by the span
+pub span_ran : (i : Image) (st : List ℕ) (base : Addr) (given : Registers) (s : Span) {w : List ℕ} → w ≡ words_of i s → {x : Stepped}
+    → run_of w s.skip st base given ≡ x → x ≡ ran_by i st base given s
+span_ran i st base given s words ran = sym ran ∙ ap (λ (l : List ℕ). run_of l s.skip st base given) words
 
 module _ (i : Image) (st : List ℕ) (base : Addr) (given : Registers) where
   -- ---- where a step leads, by what the entry leads to

@@ -14,7 +14,7 @@ pub(crate) enum Outcome {
 }
 
 // Loads the registers of a mask from sp upward. 13 is written back at the end, unless it was loaded.
-#[tactic(auto, using(crate::proofs::Pops::pop_out, crate::proofs::Pops::regs_out))]
+#[tactic(auto, using(crate::proofs::Pops::turn_out, crate::proofs::Pops::regs_out))]
 fn pop_regs(stack: Section, core: &mut [u32; 16], mask: u32) -> Result<Outcome, Refusal>
     ensures { (vfp : List ℕ) → pop_regs stack.entry.bytes.now stack.entry.at (registers core.old vfp) mask ≡ effect_of result core.new vfp }
 {
@@ -33,7 +33,7 @@ fn pop_regs(stack: Section, core: &mut [u32; 16], mask: u32) -> Result<Outcome, 
 }
 
 // VFP registers, 8 bytes each. Too high a register is refused before the stack is read.
-#[tactic(auto, using(crate::proofs::Pops::vfp_load, crate::proofs::Pops::vfp_out, crate::proofs::Pops::vfp_over, crate::proofs::Pops::vfp_outside))]
+#[tactic(auto, using(crate::proofs::Pops::vfp_turn_load, crate::proofs::Pops::vfp_turn_out, crate::proofs::Pops::vfp_over, crate::proofs::Pops::vfp_turn_outside))]
 fn pop_vfp(
     stack: Section,
     core: &mut [u32; 16],

@@ -14,7 +14,7 @@ pub(crate) fn word(stack: Section, sp: u32) -> Option<u32>
 }
 
 // Two words, the low one first. The high one is read from what follows the low one, so that no sum of offsets has to fit.
-#[tactic(auto, using(section::proofs::Words::word_here, crate::proofs::Words::double_both, crate::proofs::Words::double_low, crate::proofs::Words::double_high))]
+#[tactic(auto, using(section::proofs::Words::word_here, crate::proofs::Words::double_split, crate::proofs::Words::double_low, crate::proofs::Words::double_end))]
 fn double_at(stack: &[u8], at: Off) -> Option<u64>
     ensures { result ≡ double_at stack.now at.0 }
 {

@@ -1,7 +1,10 @@
 -- What is left of the entries, tested in turn, is what the contract asks. Assumes nothing.
-use Rattle.std.proofs.Common.{◌+◌, ◌-◌, ◌/◌, length, sym, ◌∙◌, arith}
-use Rattle.audit.proofs.Turns.{turn_fault, turn_next}
+use Rattle.std.proofs.Common.{◌+◌, ◌-◌, ◌/◌, length, refl, sym, ◌∙◌, arith}
+use Rattle.audit.proofs.Turns.{floor_first, turn_first, turn_fault, turn_next}
 use Rattle.audit.proofs.entries.Goals as goal
+
+pub loop-number-init : goal.loop-number-init
+loop-number-init c = (refl, floor_first _, turn_first _ _ _ (omega arith))
 
 pub returns-in-Err : goal.returns-in-Err
 returns-in-Err c =

@@ -6,7 +6,7 @@ use Rattle.bundle.proofs.Promise.{promised, passed_sound, sound_passed, entry_fa
 use Rattle.bundle.proofs.audit_bundle.Goals as goal
 
 pub overflow_sub-b : goal.overflow_sub-b
-overflow_sub-b c = ((fill_exact _ _).0 (sym c.in_ok-fill_rule.ensures)).1
+overflow_sub-b c = let l = ((fill_exact _ _).0 (sym c.in_ok-fill_rule.ensures)).1 in omega arith
 
 pub returns-in_err-b : goal.returns-in_err-b
 returns-in_err-b c =
