@@ -38,7 +38,7 @@ more_digits most n k acc high e =
     (λ t. rw (last_digit n, t, append_assoc (last_digits 10 k (n / 10)) (digit_glyph false (n % 10) ∷ []) acc) e)
 
 -- the fewest digits, where there is room for them, before what follows
-digits_before : (most n k : ℕ) (acc : List ℕ) → IsDigitCount 10 1 n k → k ≤ most → last_digits 10 k n ++ acc ≡ digits_onto most 10 false n acc
+pub digits_before : (most n k : ℕ) (acc : List ℕ) → IsDigitCount 10 1 n k → k ≤ most → last_digits 10 k n ++ acc ≡ digits_onto most 10 false n acc
 digits_before most n zero acc f h = let none = f.0 in absurd (omega arith)
 digits_before zero n (suc k) acc f h = absurd (omega arith)
 digits_before (suc most) n (suc zero) acc f h = one_digit most n acc f.1
