@@ -93,15 +93,17 @@ pub(crate) fn first_covering(
     Err(Refusal::NoSite)
 }
 
-// The first fault of the sites.
+// The first fault of the sites. Each way on is an arm, so that a wrong one is refused at its own goal.
 #[tactic(auto, using(crate::proofs::Turns::sites_done, crate::proofs::Turns::sites_refused, crate::proofs::Turns::sites_more, crate::proofs::Turns::site_inside, section::proofs::Walks::checked_end, section::proofs::Walks::checked_stop, section::proofs::Walks::checked_more, crate::proofs::Sums::settled_fits, crate::proofs::Sums::settled_fault))]
 pub(crate) fn all_fit(data: &[u8], header: Header) -> Result<(), Refusal>
     ensures { result ≡ audit_from «data».now header header.start.0 }
 {
     let mut at = header.start;
     while let Some((site, next)) = crate::site_at(data, header, at)? {
-        settled(header.base, site)?;
-        at = next;
+        match settled(header.base, site) {
+            Ok(_) => at = next,
+            Err(r) => return Err(r),
+        }
     }
     Ok(())
 }

@@ -12,13 +12,12 @@ returns-in_err-site c =
     let e : c.from_residual.result ≡ Err c.in_err-site.field-0.0 = search rules in
     e ∙ sym (c.loop-site.invariant ∙ ap (checked (fits_of _)) (sites_refused _ _ _ _ (sym c.in_err-site.ensures)) ∙ checked_stop (fits_of _) _)
 
-pub returns-in_err-settled : goal.returns-in_err-settled
-returns-in_err-settled c =
-    let e : c.from_residual-in_err-settled.result ≡ Err c.in_err-settled.field-0.0 = search rules in
+pub returns-in-Err : goal.returns-in-Err
+returns-in-Err c =
     let more = ap (checked (fits_of _)) (sites_more _ _ _ _ _ (sym c.in_ok-site.ensures ∙ ap Ok c.in-Some.is)) ∙ checked_more (fits_of _) _ _ in
-    e ∙ sym (c.loop-site.invariant ∙ more ∙ rw (settled_fault _ _ _ (sym c.in_err-settled.ensures)))
+    sym (c.loop-site.invariant ∙ more ∙ rw (settled_fault _ _ _ (sym c.settled.ensures ∙ c.in-Err.is)))
 
 pub loop-site-preserved : goal.loop-site-preserved
 loop-site-preserved c =
     let more = ap (checked (fits_of _)) (sites_more _ _ _ _ _ (sym c.in_ok-site.ensures ∙ ap Ok c.in-Some.is)) ∙ checked_more (fits_of _) _ _ in
-    c.loop-site.invariant ∙ more ∙ rw (settled_fits _ _ _ (sym c.in_ok-settled.ensures))
+    c.loop-site.invariant ∙ more ∙ rw (settled_fits _ _ _ (sym c.settled.ensures ∙ c.in-Ok.is))
